@@ -1,0 +1,4 @@
+pub mod Kinds
+pub mod Words
+pub mod Formed
+pub mod Reader

@@ -1,0 +1,41 @@
+//! Tags of tree records.
+
+pub const BLOCK: u64 = 1;
+pub const RETURN: u64 = 2;
+pub const IF: u64 = 3;
+pub const WHILE: u64 = 4;
+pub const DO: u64 = 5;
+pub const NUMERIC_FOR: u64 = 6;
+pub const GENERIC_FOR: u64 = 7;
+pub const REPEAT: u64 = 8;
+pub const FUNCTION: u64 = 9;
+pub const LOCAL_FUNCTION: u64 = 10;
+pub const LOCAL: u64 = 11;
+pub const LABEL: u64 = 12;
+pub const BREAK: u64 = 13;
+pub const GOTO: u64 = 14;
+pub const CALL_STATEMENT: u64 = 15;
+pub const ASSIGNMENT: u64 = 16;
+
+pub const EXPRESSION: u64 = 17;
+pub const UNARY: u64 = 18;
+pub const TAIL: u64 = 19;
+pub const INTEGER: u64 = 20;
+pub const FLOAT: u64 = 21;
+pub const STRING: u64 = 22;
+pub const NIL: u64 = 23;
+pub const TRUE: u64 = 24;
+pub const FALSE: u64 = 25;
+pub const VAR_ARGS: u64 = 26;
+pub const TABLE: u64 = 27;
+pub const DEFINITION: u64 = 28;
+pub const SUFFIXED: u64 = 29;
+pub const NAME: u64 = 30;
+pub const GROUPED: u64 = 31;
+pub const FIELD: u64 = 32;
+pub const INDEX: u64 = 33;
+pub const CALL: u64 = 34;
+pub const METHOD_CALL: u64 = 35;
+pub const ARRAY_FIELD: u64 = 36;
+pub const NAMED_FIELD: u64 = 37;
+pub const INDEXED_FIELD: u64 = 38;

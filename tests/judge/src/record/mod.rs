@@ -1,0 +1,5 @@
+//! Choosing the recorded list.
+
+pub mod edges;
+pub mod features;
+pub mod form;
