@@ -36,11 +36,11 @@ pub enum Feature {
 impl Feature {
     pub fn wanted(&self) -> usize {
         match self {
-            Feature::Fault(..) => 14,
-            Feature::Answer(..) => 8,
-            Feature::Record { .. } => 3,
-            Feature::Line { .. } => 3,
-            _ => 1,
+            Feature::Fault(..) => 28,
+            Feature::Answer(..) => 16,
+            Feature::Record { .. } => 6,
+            Feature::Line { .. } => 6,
+            _ => 2,
         }
     }
 }
