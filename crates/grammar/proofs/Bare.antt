@@ -2,7 +2,7 @@
 use mathlib.Core.Path.{_≡_, refl, sym, ap, _∙_, subst}
 use mathlib.Core.List.{List}
 use mathlib.Core.Bool.{Bool, true, false}
-use Prim.Native.Nat.{ℕ, zero, suc, _+_, _-_, _≤_, _<_, min, max}
+use Prim.Native.Nat.{ℕ, suc, _+_, _-_, _≤_, _<_, min, max}
 use native.Mathlib.Omega.{arith}
 use borrow.Author.Tests.{eqb-false}
 use lib.ListN.{length}
@@ -139,19 +139,3 @@ module _ (s : List ℕ) (rank : Ranks) (limit : ℕ) (R : Readers) where
       go : (c : Bool) → ltb limit (rank .left (kind s p)) ≡ c → bare (turns (suc f) p (reached s m p 2)) ≡ bare (turns (suc f) p m)
       go true h = turn-above f p (reached s m p 2) h ∙ ap (operands (λ q n. bare (turns f q n)) p) (idem s m p) ∙ sym (turn-above f p m h)
       go false h = turn-below f p (reached s m p 2) h ∙ ap (at p) (idem s m p) ∙ sym (turn-below f p m h)
-
-  module _ (ahead : (l p m : ℕ) → Ahead s p (bare (R .exps l p m))) where
-    fuel-step : (f f′ p m : ℕ) → ((q n : ℕ) → p < q → q ≤ length s → bare (turns f q n) ≡ bare (turns f′ q n)) → (c : Bool) → ltb limit (rank .left (kind s p)) ≡ c
-        → bare (turns (suc f) p m) ≡ bare (turns (suc f′) p m)
-    fuel-step f f′ p m ih true h =
-        turn-above f p m h
-        ∙ bind-eq s p (bare (take s p (reached s m p 2))) _ _ (take-ahead s p (reached s m p 2))
-        (λ q n l b. bind-eq s q (bare (R .exps (rank .right (kind s (q - 1))) q n)) _ _ (ahead _ q n) (λ q′ n′ l′ b′. ih q′ n′ (omega arith) b′))
-        ∙ sym (turn-above f′ p m h)
-    fuel-step f f′ p m ih false h = turn-below f p m h ∙ sym (turn-below f′ p m h)
-
-    -- enough is enough
-    pub fuel : (f f′ p m : ℕ) → p ≤ length s → length s < p + f → length s < p + f′ → bare (turns f p m) ≡ bare (turns f′ p m)
-    fuel zero f′ p m b e e′ = absurd (omega arith)
-    fuel (suc f) zero p m b e e′ = absurd (omega arith)
-    fuel (suc f) (suc f′) p m b e e′ = fuel-step f f′ p m (λ q n l c. fuel f f′ q n c (omega arith) (omega arith)) (ltb limit (rank .left (kind s p))) refl

@@ -1,17 +1,18 @@
--- What the terms derive, the grammar of section 9 derives. Assumes nothing.
+-- What the terms derive, the grammar of section 9 derives: one lemma `from-..` a production, up to `from-expression` and
+-- `from-statement`. Assumes of the phrases one level down what Lower says, and of the ranking that its operators are section 9's.
 use mathlib.Core.Path.{_≡_, refl, sym, ap, _∙_, subst}
 use mathlib.Core.List.{List, [], _∷_}
 use mathlib.Core.Bool.{true}
 use Prim.Native.Nat.{ℕ, suc, _+_, _-_, _*_, _≤_, _<_}
 use native.Mathlib.Omega.{arith}
 use native.Mathlib.Nat.{suc-mul, one-mul, zero-mul, mul-zero, mul-one}
-use Rattle.stream.specs.Kinds.{Return, SemiColon, Comma, Assign, Name, Not, Minus, BitNotXor, Len, Then, Do, Local, Break, For, In, While, EndOfStream, Else, ElseIf, End, Until, Dots, RightBrace, Dot, Colon, LeftBrace}
+use Rattle.stream.specs.Kinds.{Function, SemiColon, Comma, Assign, Name, Not, Minus, BitNotXor, Len, Do, Local, Break, For, In, While, EndOfStream, Else, ElseIf, End, Until, RightBrace, Colon, LeftBrace}
 use Rattle.stream.specs.Words.{kind, payload}
 use Rattle.operators.specs.Ranks.{Ranks, code, unary-code, find}
 use Rattle.tree.specs.Forest.{Forest, none, tree, join}
 use Rattle.tree.proofs.Lay.{join-none, join-assoc}
 use Rattle.grammar.specs.Member.{member}
-use Rattle.grammar.specs.Term.{Term, ahead, next, check, opt, _⇒_∣_, _⨾_, any, leaf, plus, on, again, empty, refuse, stat, weigh, iter, kept, target, call}
+use Rattle.grammar.specs.Term.{Term, Look, far, ahead, next, check, opt, _⨾_, any, leaf, plus, exp, on, node, weigh, iter, target, call, unlined, here}
 use Rattle.grammar.specs.Reading.{Held, shaped, last}
 use Rattle.grammar.specs.Productions.{word, named, nameleaf, expr}
 use Rattle.grammar.specs.Productions.{explist, retstat, block, parlist, funcbody, field, table, args, suffix, primary, suffixed, simple, head, tail, tails, expression}
@@ -22,19 +23,23 @@ use Rattle.grammar.proofs.Derives.{Phrases, Derives}
 use Rattle.grammar.proofs.Derives.{empty′, expect′, any′, leaf′, weigh′, coded′, plus′, exp′, operand′, stat′, seq′, this′, that′, above′, below′, node′, lead′, held′, kept′, iter′, again′}
 use Rattle.grammar.proofs.Forward.{wrong}
 use Rattle.grammar.proofs.Sets.{known, apart, only}
-use Rattle.grammar.proofs.Lower.{Lower, retree, revalue}
+use Rattle.grammar.proofs.Lower.{Lower, retree, revalue, before}
+use Rattle.grammar.proofs.Turns.{stops, exp-turn, stat-turn, param-turn, field-turn, suffix-turn, elseif-turn, name-turn, fieldname-turn, target-turn}
 use Rattle.grammar.proofs.Shapes.{last-var, last-call}
-
-back-one : (p : ℕ) → p + 1 - 1 ≡ p
-back-one p = omega arith
 
 module _ (s : List ℕ) (rank : Ranks) (limit : ℕ) (P : G.Phrases) (Q : Phrases) (low : Lower s P Q) where
   abbrev D : Held → Term → Term → ℕ → ℕ → Forest → ℕ → Type 0
   D = Derives s rank limit Q
 
+  -- a choice is the first or the second
+  either : {A : Type 0} {h : Held} {b e f : Term} {l : Look} {ks : List ℕ} {i j v : ℕ} {t : Forest} → D h b (on l ks e f) i j t v
+      → (Among s ks (far l i) → D h b e i j t v → A) → (Ends s ks (far l i) → D h b f i j t v → A) → A
+  either (this′ y d) g k = g y d
+  either (that′ y d) g k = k y d
+
   -- a leaf is of the token before it
   name-back : (i : ℕ) → tree 30 (payload s (i + 1 - 1)) 0 (i + 1 - 1) none none ≡ name s i
-  name-back i = ap (name s) (back-one i)
+  name-back i = ap (name s) (before i)
 
   -- so many expressions, which weigh w each
   record Listed (w i j : ℕ) (t : Forest) (v : ℕ) : Type 0 where
@@ -42,10 +47,7 @@ module _ (s : List ℕ) (rank : Ranks) (limit : ℕ) (P : G.Phrases) (Q : Phrase
     pub list : G.Explist s rank P i j amount t
     pub weight : v ≡ amount * w
 
-  abbrev more-exps : ℕ → Term
-  more-exps w = on check (Comma ∷ []) ((any ⨾ plus w ⨾ expr) ⨾ again) empty
-
-  from-exps : {h : Held} {w i j k v : ℕ} {t u : Forest} → P .exps 0 i j t → D h (more-exps w) (more-exps w) j k u v → Listed w i k (join t u) (w + v)
+  from-exps : {h : Held} {w i j k v : ℕ} {t u : Forest} → P .exps 0 i j t → D h (exp-turn w) (exp-turn w) j k u v → Listed w i k (join t u) (w + v)
   from-exps {w = w} {t = t} e (that′ y empty′) =
       record { amount = 1; list = subst (G.Explist s rank P _ _ 1) (sym (join-none t)) (G.one-exp e y); weight = omega (arith, one-mul w) }
   from-exps {w = w} e (this′ y (seq′ (seq′ (any′ x) (seq′ plus′ (exp′ d))) (again′ r))) =
@@ -80,14 +82,8 @@ module _ (s : List ℕ) (rank : Ranks) (limit : ℕ) (P : G.Phrases) (Q : Phrase
       let m = from-explist l in
       (retree (G.Retstat s rank P _ _) (omega (arith, q .light, m .weight)) (sym (ap (join t) (q .nothing) ∙ join-none t)) (G.return-exps x (m .list) (q .there)), refl)
 
-  abbrev stat-ends : List ℕ
-  stat-ends = EndOfStream ∷ Else ∷ ElseIf ∷ End ∷ Until ∷ Return ∷ []
-
-  abbrev more-stats : Term
-  more-stats = on ahead stat-ends empty (on ahead (SemiColon ∷ []) any stat ⨾ again)
-
-  from-stats : {h : Held} {i j v : ℕ} {t : Forest} → D h more-stats more-stats i j t v → G.Stats s rank P i j t × (v ≡ 0)
-  from-stats (this′ {i = i} y empty′) = (G.done (apart (kind s i) stat-ends first-stat refl y), refl)
+  from-stats : {h : Held} {i j v : ℕ} {t : Forest} → D h stat-turn stat-turn i j t v → G.Stats s rank P i j t × (v ≡ 0)
+  from-stats (this′ {i = i} y empty′) = (G.done (apart (kind s i) stops first-stat refl y), refl)
   from-stats (that′ y (seq′ (this′ z (any′ x)) (again′ d))) = let f = from-stats d in (G.semicolon (only z) (f .0), omega (arith, f .1))
   from-stats (that′ y (seq′ (that′ z (stat′ e)) (again′ d))) =
       let f = from-stats d in
@@ -111,10 +107,7 @@ module _ (s : List ℕ) (rank : Ranks) (limit : ℕ) (P : G.Phrases) (Q : Phrase
   one-par x y (G.names-dots l a b) = revalue (G.Parlist s rank P _ _) (omega arith) (G.names-dots (G.more-names x y l) a b)
   one-par x y (G.dots z) = G.names-dots (G.one-name x) y z
 
-  abbrev more-pars : Term
-  more-pars = Name ⇒ any ⨾ leaf 30 ⨾ plus 2 ⨾ opt check (Comma ∷ []) (any ⨾ again) ∣ Dots ⇒ any ⨾ plus 1 ∣ refuse 63
-
-  from-pars : {h : Held} {i j v : ℕ} {t : Forest} → D h more-pars more-pars i j t v → G.Parlist s rank P i j v t
+  from-pars : {h : Held} {i j v : ℕ} {t : Forest} → D h param-turn param-turn i j t v → G.Parlist s rank P i j v t
   from-pars (this′ {i = i} y (seq′ (any′ x) (seq′ leaf′ (seq′ plus′ (that′ z empty′))))) = subst (G.Parlist s rank P _ _ 2) (sym (name-back i)) (G.names (G.one-name (only y)))
   from-pars (this′ {i = i} y (seq′ (any′ x) (seq′ leaf′ (seq′ plus′ (this′ z (seq′ (any′ w) (again′ {v = v} {t = t} d))))))) =
       revalue (G.Parlist s rank P _ _) (omega arith) (subst (G.Parlist s rank P _ _ (2 + v)) (ap (λ u. join u t) (sym (name-back i))) (one-par (only y) (only z) (from-pars d)))
@@ -133,7 +126,7 @@ module _ (s : List ℕ) (rank : Ranks) (limit : ℕ) (P : G.Phrases) (Q : Phrase
   unfolding field
   from-field (this′ y (this′ z (node′ {i = i} (seq′ (expect′ a) (seq′ weigh′ (seq′ (expect′ c) (exp′ e))))))) =
       let f = low .exp-from e in
-      (retree (G.Field s rank P _ _) (omega (arith, f .1, ap (payload s) (back-one i))) refl (G.named (only y) c (f .0)), refl)
+      (retree (G.Field s rank P _ _) (omega (arith, f .1, ap (payload s) (before i))) refl (G.named (only y) c (f .0)), refl)
   from-field (this′ y (that′ z (node′ (exp′ e)))) = let f = low .exp-from e in (retree (G.Field s rank P _ _) (sym (f .1)) refl (G.item (f .0)), refl)
   from-field (that′ y (this′ z (node′ (seq′ (any′ x) (seq′ (exp′ e) (seq′ (expect′ a) (seq′ (expect′ c) (exp′ g)))))))) =
       let f = low .exp-from e in
@@ -150,10 +143,7 @@ module _ (s : List ℕ) (rank : Ranks) (limit : ℕ) (P : G.Phrases) (Q : Phrase
   one-field {w = w} {t = t} f z (shut x) e = filled {v = w} (subst (G.Fieldlist s rank P _ _ 1) (sym (join-none t)) (G.last-field-sep f z)) x (omega arith)
   one-field {w = w} f z (filled l x e) g = filled {v = w} (G.more-fields f z l) x (omega arith)
 
-  abbrev more-fields : Term
-  more-fields = on check (RightBrace ∷ []) (word RightBrace) (plus 1 ⨾ field ⨾ on next (Comma ∷ SemiColon ∷ []) (any ⨾ again) (word RightBrace))
-
-  from-fields : {h : Held} {i j v : ℕ} {t : Forest} → D h more-fields more-fields i j t v → Closing i j t v
+  from-fields : {h : Held} {i j v : ℕ} {t : Forest} → D h field-turn field-turn i j t v → Closing i j t v
   from-fields (this′ y (expect′ x)) = shut x
   from-fields (that′ y (seq′ plus′ (seq′ f (this′ z (seq′ (any′ x) (again′ d)))))) = let g = from-field f in one-field (g .0) z (from-fields d) (omega (arith, g .1))
   from-fields (that′ y (seq′ plus′ (seq′ {v = v} {t = t} f (that′ z (expect′ x))))) =
@@ -186,7 +176,7 @@ module _ (s : List ℕ) (rank : Ranks) (limit : ℕ) (P : G.Phrases) (Q : Phrase
   from-args {w = w} (that′ y (that′ z (this′ {i = i} a (seq′ plus′ (node′ (seq′ (any′ x) leaf′)))))) =
       record {
         amount = 1;
-        list = retree (G.Args s rank P _ _ 1) refl (sym (ap (λ p. tree 22 (payload s p) 0 p none none) (back-one i))) (G.string-arg (only a));
+        list = retree (G.Args s rank P _ _ 1) refl (sym (ap (λ p. tree 22 (payload s p) 0 p none none) (before i))) (G.string-arg (only a));
         weight = omega (arith, one-mul w);
       }
 
@@ -196,13 +186,13 @@ module _ (s : List ℕ) (rank : Ranks) (limit : ℕ) (P : G.Phrases) (Q : Phrase
   from-suffix : {h : Held} {b : Term} {i j k n v : ℕ} {t u : Forest} → G.Prefixexp s rank P i j n t → D h b suffix j k u v → G.Prefixexp s rank P i k (suc n) (join t u) × (v ≡ 0)
   unfolding suffix
   from-suffix {i = i} {j = j} {k = k} {n = n} {t = t} p (this′ y (node′ (seq′ (any′ x) (seq′ (expect′ a) weigh′)))) =
-      (retree (Joined i k n t) (omega (arith, ap (payload s) (back-one (j + 1)))) refl (G.var (G.field p (only y) a)), refl)
+      (retree (Joined i k n t) (omega (arith, ap (payload s) (before (j + 1)))) refl (G.var (G.field p (only y) a)), refl)
   from-suffix {i = i} {k = k} {n = n} {t = t} p (that′ y (this′ z (node′ (seq′ (any′ x) (seq′ {t = e} (exp′ d) (expect′ a)))))) =
       let f = low .exp-from d in
       (retree (Joined i k n t) (omega (arith, f .1)) (sym (join-none e)) (G.var (G.index p (only z) (f .0) a)), refl)
   from-suffix {i = i} {j = j} {k = k} {n = n} {t = t} p (that′ y (that′ z (this′ a (node′ (seq′ (any′ x) (seq′ (expect′ c) (seq′ weigh′ d))))))) =
       let f = from-args d in (
-        retree (Joined i k n t) (omega (arith, f .weight, ap (payload s) (back-one (j + 1)), mul-zero (f .amount))) refl
+        retree (Joined i k n t) (omega (arith, f .weight, ap (payload s) (before (j + 1)), mul-zero (f .amount))) refl
             (G.functioncall (G.method-call p (only a) c (f .list))),
         refl,
       )
@@ -217,14 +207,11 @@ module _ (s : List ℕ) (rank : Ranks) (limit : ℕ) (P : G.Phrases) (Q : Phrase
       (retree (G.Prefixexp s rank P _ _ 0) (omega (arith, f .1)) (sym (join-none e)) (G.group (only y) (f .0) a), refl)
   from-primary (that′ y (this′ {i = i} z (seq′ (any′ x) leaf′))) = (subst (G.Prefixexp s rank P _ _ 0) (sym (name-back i)) (G.var (G.var-name (only z))), refl)
 
-  abbrev more-suffixes : Term
-  more-suffixes = on ahead first-suffix ((plus 1 ⨾ suffix) ⨾ again) empty
-
   record Followed (i k n : ℕ) (t : Forest) : Type 0 where
     pub prefixed : G.Prefixexp s rank P i k n t
     pub ended : Ends s first-suffix k
 
-  from-suffixes : {h : Held} {i j k n v m : ℕ} {t u : Forest} → G.Prefixexp s rank P i j n t → D h more-suffixes more-suffixes j k u v → m ≡ n + v → Followed i k m (join t u)
+  from-suffixes : {h : Held} {i j k n v m : ℕ} {t u : Forest} → G.Prefixexp s rank P i j n t → D h suffix-turn suffix-turn j k u v → m ≡ n + v → Followed i k m (join t u)
   from-suffixes {t = t} p (that′ y empty′) e =
       record { prefixed = revalue (G.Prefixexp s rank P _ _) (omega arith) (subst (G.Prefixexp s rank P _ _ _) (sym (join-none t)) p); ended = y }
   from-suffixes {i = i} {k = k} {m = m} {t = t} p (this′ y (seq′ {t = a} {u = r} (seq′ plus′ x) (again′ d))) e =
@@ -242,47 +229,44 @@ module _ (s : List ℕ) (rank : Ranks) (limit : ℕ) (P : G.Phrases) (Q : Phrase
       let g = from-suffixes (f .0) d refl in
       retree (λ u. Suffixed i j u 0) (omega (arith, f .1)) refl (as-long (g .prefixed) (g .ended))
 
-  -- the record of a token that stands for itself
-  at-leaf : {tag j : ℕ} (i : ℕ) → G.Exp s rank P limit i j 0 (made s tag (payload s i) i none) → G.Exp s rank P limit i j 0 (tree tag (payload s (i + 1 - 1)) 0 (i + 1 - 1) none none)
-  at-leaf {tag} {j} i x = subst (λ p. G.Exp s rank P limit i j 0 (tree tag (payload s p) 0 p none none)) (sym (back-one i)) x
+  -- an exp that is one token
+  literal : {h : Held} {b : Term} {tag i j v : ℕ} {t : Forest} → G.Exp s rank P limit i (i + 1) 0 (made s tag (payload s i) i none) → D h b (any ⨾ leaf tag) i j t v
+      → G.Exp s rank P limit i j 0 t × (v ≡ 0)
+  literal {tag = tag} {i = i} x (seq′ (any′ y) leaf′) = (subst (λ p. G.Exp s rank P limit i (i + 1) 0 (tree tag (payload s p) 0 p none none)) (sym (before i)) x, refl)
 
   plainly : {i j v : ℕ} {t : Forest} → Suffixed i j t v → G.Exp s rank P limit i j 0 t × (v ≡ 0)
   plainly (as-long p y) = (G.prefix p y, refl)
 
+  function-exp : {h : Held} {b : Term} {i j v : ℕ} {t : Forest} → kind s i ≡ Function → D h b (any ⨾ funcbody) i j t v → G.Exp s rank P limit i j 0 t × (v ≡ 0)
+  function-exp x (seq′ (any′ y) d) = let f = from-funcbody d in (G.function-exp (G.functiondef x (f .0)), omega (arith, f .1))
+
   from-simple : {h : Held} {b : Term} {i j v : ℕ} {t : Forest} → D h b simple i j t v → G.Exp s rank P limit i j 0 t × (v ≡ 0)
   unfolding simple
-  from-simple (this′ {i = i} y (seq′ (any′ x) leaf′)) = (at-leaf i (G.float (only y)), refl)
-  from-simple (that′ a (this′ {i = i} y (seq′ (any′ x) leaf′))) = (at-leaf i (G.integer (only y)), refl)
-  from-simple (that′ a (that′ c (this′ {i = i} y (seq′ (any′ x) leaf′)))) = (at-leaf i (G.string (only y)), refl)
-  from-simple (that′ a (that′ c (that′ d (this′ {i = i} y (seq′ (any′ x) leaf′))))) = (at-leaf i (G.nil (only y)), refl)
-  from-simple (that′ a (that′ c (that′ d (that′ e (this′ {i = i} y (seq′ (any′ x) leaf′)))))) = (at-leaf i (G.true-exp (only y)), refl)
-  from-simple (that′ a (that′ c (that′ d (that′ e (that′ f (this′ {i = i} y (seq′ (any′ x) leaf′))))))) = (at-leaf i (G.false-exp (only y)), refl)
-  from-simple (that′ a (that′ c (that′ d (that′ e (that′ f (that′ g (this′ {i = i} y (seq′ (any′ x) leaf′)))))))) = (at-leaf i (G.varargs (only y)), refl)
-  from-simple (that′ a (that′ c (that′ d (that′ e (that′ f (that′ g (that′ h (this′ y k)))))))) = let z = from-table k in (G.table (z .0), z .1)
-  from-simple (that′ a (that′ c (that′ d (that′ e (that′ f (that′ g (that′ h (that′ y (this′ z (seq′ (any′ x) k)))))))))) =
-      let w = from-funcbody k in
-      (G.function-exp (G.functiondef (only z) (w .0)), omega (arith, w .1))
-  from-simple (that′ a (that′ c (that′ d (that′ e (that′ f (that′ g (that′ h (that′ y (that′ z k))))))))) = plainly (from-suffixed k)
+  from-simple d =
+      either d (λ y. literal (G.float (only y)))
+      (λ n d. either d (λ y. literal (G.integer (only y)))
+      (λ n d. either d (λ y. literal (G.string (only y)))
+      (λ n d. either d (λ y. literal (G.nil (only y)))
+      (λ n d. either d (λ y. literal (G.true-exp (only y)))
+      (λ n d. either d (λ y. literal (G.false-exp (only y)))
+      (λ n d. either d (λ y. literal (G.varargs (only y)))
+      (λ n d. either d (λ y d. let f = from-table d in (G.table (f .0), f .1))
+      (λ n d. either d (λ y. function-exp (only y)) (λ n d. plainly (from-suffixed d))))))))))
 
   -- a unary operator and its operand
-  operated : {i j c v : ℕ} {e : Forest} (k : ℕ) → kind s i ≡ k → member k unop ≡ true → unary-code k ≡ c → P .exps 12 (i + 1) j e → v ≡ c → G.Exp s rank P limit i j 0 (made s 18 v i e)
-  operated k x y z e w = retree (G.Exp s rank P limit _ _ 0) (ap unary-code x ∙ z ∙ sym w) refl (G.unary (known unop x y) e)
+  from-unary : {h : Held} {b : Term} {c i j v : ℕ} {t : Forest} (k : ℕ) → kind s i ≡ k → member k unop ≡ true → unary-code k ≡ c → D h b (node 18 here unlined (any ⨾ plus c ⨾ exp 12)) i j t v
+      → G.Exp s rank P limit i j 0 t × (v ≡ 0)
+  from-unary {c = c} k x y z (node′ (seq′ (any′ w) (seq′ plus′ (exp′ e)))) =
+      let f = low .exp-from e in
+      (retree (G.Exp s rank P limit _ _ 0) (ap unary-code x ∙ z ∙ omega (arith, f .1)) refl (G.unary (known unop x y) (f .0)), refl)
 
   from-head : {h : Held} {b : Term} {i j v : ℕ} {t : Forest} → D h b head i j t v → G.Exp s rank P limit i j 0 t × (v ≡ 0)
   unfolding head find
-  from-head (this′ y (node′ (seq′ (any′ x) (seq′ plus′ (exp′ e))))) =
-      let f = low .exp-from e in
-      (operated Not (only y) refl refl (f .0) (omega (arith, f .1)), refl)
-  from-head (that′ a (this′ y (node′ (seq′ (any′ x) (seq′ plus′ (exp′ e)))))) =
-      let f = low .exp-from e in
-      (operated Minus (only y) refl refl (f .0) (omega (arith, f .1)), refl)
-  from-head (that′ a (that′ c (this′ y (node′ (seq′ (any′ x) (seq′ plus′ (exp′ e))))))) =
-      let f = low .exp-from e in
-      (operated BitNotXor (only y) refl refl (f .0) (omega (arith, f .1)), refl)
-  from-head (that′ a (that′ c (that′ d (this′ y (node′ (seq′ (any′ x) (seq′ plus′ (exp′ e)))))))) =
-      let f = low .exp-from e in
-      (operated Len (only y) refl refl (f .0) (omega (arith, f .1)), refl)
-  from-head (that′ a (that′ c (that′ d (that′ e k)))) = from-simple k
+  from-head d =
+      either d (λ y. from-unary Not (only y) refl refl)
+      (λ n d. either d (λ y. from-unary Minus (only y) refl refl)
+      (λ n d. either d (λ y. from-unary BitNotXor (only y) refl refl)
+      (λ n d. either d (λ y. from-unary Len (only y) refl refl) (λ n d. from-simple d))))
 
   -- an exp as long as it can be
   record Chained (i k n : ℕ) (t : Forest) : Type 0 where
@@ -293,8 +277,8 @@ module _ (s : List ℕ) (rank : Ranks) (limit : ℕ) (P : G.Phrases) (Q : Phrase
     one-tail : {i j k n v c : ℕ} {t e : Forest} → G.Exp s rank P limit i j n t → limit < rank .left (kind s j) → Q .exps (rank .right (kind s (j + 1 - 1))) (j + 1) k e v
         → c ≡ code (kind s (j + 1 - 1)) + v → G.Exp s rank P limit i k (suc n) (join t (made s 19 c j e))
     one-tail {i} {j} {k} {n} {v} {c} {t} {e} x y d q =
-        let f = low .exp-from (subst (λ p. Q .exps (rank .right (kind s p)) (j + 1) k e v) (back-one j) d) in
-        retree (λ u. G.Exp s rank P limit i k (suc n) (join t u)) (omega (arith, f .1, ap (λ p. code (kind s p)) (back-one j))) refl (G.binary x (ranked (kind s j) (omega arith)) y (f .0))
+        let f = low .exp-from (subst (λ p. Q .exps (rank .right (kind s p)) (j + 1) k e v) (before j) d) in
+        retree (λ u. G.Exp s rank P limit i k (suc n) (join t u)) (omega (arith, f .1, ap (λ p. code (kind s p)) (before j))) refl (G.binary x (ranked (kind s j) (omega arith)) y (f .0))
 
     from-tails : {h : Held} {i j k n m v : ℕ} {t u : Forest} → G.Exp s rank P limit i j n t → D h tail tail j k u v → m ≡ n + v → Chained i k m (join t u)
     unfolding tail
@@ -311,15 +295,12 @@ module _ (s : List ℕ) (rank : Ranks) (limit : ℕ) (P : G.Phrases) (Q : Phrase
         (retree (G.Whole s rank P limit _ _) (omega (arith, f .1)) refl (G.whole (g .chained) (g .limited)), refl)
 
   -- {elseif exp then block}
-  abbrev more-elseifs : Term
-  more-elseifs = on check (ElseIf ∷ []) ((any ⨾ plus 2 ⨾ expr ⨾ word Then ⨾ block) ⨾ again) empty
-
   record Alternatives (i j : ℕ) (t : Forest) (v : ℕ) : Type 0 where
     pub amount : ℕ
     pub list : G.Elseifs s rank P i j amount t
     pub weight : v ≡ 2 * amount
 
-  from-elseifs : {h : Held} {i j v : ℕ} {t : Forest} → D h more-elseifs more-elseifs i j t v → Alternatives i j t v
+  from-elseifs : {h : Held} {i j v : ℕ} {t : Forest} → D h elseif-turn elseif-turn i j t v → Alternatives i j t v
   from-elseifs (that′ y empty′) = record { amount = 0; list = G.none-left; weight = refl }
   from-elseifs (this′ y (seq′ {u = r} (seq′ (any′ x) (seq′ plus′ (seq′ {t = e} (exp′ d) (seq′ {u = b} (expect′ z) k)))) (again′ q))) =
       let f = low .exp-from d in
@@ -359,10 +340,7 @@ module _ (s : List ℕ) (rank : Ranks) (limit : ℕ) (P : G.Phrases) (Q : Phrase
       (retree (G.Stat s rank P _ _) (omega (arith, f .1, g .1)) refl (G.repeat x (g .0) y (f .0)), refl)
 
   -- Name {',' Name}
-  abbrev more-names : Term
-  more-names = on check (Comma ∷ []) ((any ⨾ nameleaf ⨾ plus 1) ⨾ again) empty
-
-  from-names : {h : Held} {i j v m : ℕ} {t : Forest} → kind s i ≡ Name → D h more-names more-names (i + 1) j t v → m ≡ 1 + v → G.Attnamelist s rank P i j m (join (name s i) t)
+  from-names : {h : Held} {i j v m : ℕ} {t : Forest} → kind s i ≡ Name → D h name-turn name-turn (i + 1) j t v → m ≡ 1 + v → G.Attnamelist s rank P i j m (join (name s i) t)
   from-names x (that′ y empty′) e = revalue (G.Attnamelist s rank P _ _) (sym e) (G.att x y)
   from-names {i = i} x (this′ y (seq′ {u = r} (seq′ (any′ z) (seq′ (seq′ (expect′ w) leaf′) plus′)) (again′ d))) e =
       revalue (G.Attnamelist s rank P _ _) (omega arith) (G.atts x (only y) (subst (G.Attnamelist s rank P _ _ _) (ap (λ u. join u r) (sym (name-back (i + 1 + 1)))) (from-names w d refl)))
@@ -413,16 +391,16 @@ module _ (s : List ℕ) (rank : Ranks) (limit : ℕ) (P : G.Phrases) (Q : Phrase
       let g = low .exp-from d in
       let l = low .exp-from o in
       let m = from-body k in
-      numeric-two q (g .0) w (l .0) m (omega (arith, g .1, l .1, light m, ap (payload s) (back-one (i + 1))))
+      numeric-two q (g .0) w (l .0) m (omega (arith, g .1, l .1, light m, ap (payload s) (before (i + 1))))
   from-numeric {i = i} q (seq′ weigh′ (seq′ (any′ x) (seq′ (exp′ d) (seq′ (expect′ w) (seq′ (exp′ o) (seq′ (this′ z (seq′ (any′ n) (exp′ r))) k)))))) =
       let g = low .exp-from d in
       let l = low .exp-from o in
       let u = low .exp-from r in
       let m = from-body k in
-      numeric-three q (g .0) w (l .0) (only z) (u .0) m (omega (arith, g .1, l .1, u .1, light m, ap (payload s) (back-one (i + 1))))
+      numeric-three q (g .0) w (l .0) (only z) (u .0) m (omega (arith, g .1, l .1, u .1, light m, ap (payload s) (before (i + 1))))
 
   from-generic : {h : Held} {c : Term} {i j v : ℕ} {t : Forest} → kind s i ≡ For → kind s (i + 1) ≡ Name
-      → D h c (leaf 30 ⨾ plus 1 ⨾ iter more-names ⨾ word In ⨾ explist 0 ⨾ word Do ⨾ block ⨾ word End) (i + 1 + 1) j t v → G.Stat s rank P i j (stated s 7 v i t)
+      → D h c (leaf 30 ⨾ plus 1 ⨾ iter name-turn ⨾ word In ⨾ explist 0 ⨾ word Do ⨾ block ⨾ word End) (i + 1 + 1) j t v → G.Stat s rank P i j (stated s 7 v i t)
   from-generic {i = i} x y (seq′ leaf′ (seq′ plus′ (seq′ {t = t} (iter′ n) (seq′ (expect′ w) (seq′ {t = u} {u = b} d k))))) =
       let g = from-explist d in
       let m = from-body k in
@@ -437,7 +415,7 @@ module _ (s : List ℕ) (rank : Ranks) (limit : ℕ) (P : G.Phrases) (Q : Phrase
   unfolding localfunction
   from-local-function {i = i} x (node′ (seq′ (any′ y) (seq′ (expect′ z) (seq′ (expect′ w) (seq′ weigh′ d))))) =
       let f = from-funcbody d in
-      (retree (G.Stat s rank P _ _) (omega (arith, f .1, ap (payload s) (back-one (i + 1 + 1)))) refl (G.local-function x z w (f .0)), refl)
+      (retree (G.Stat s rank P _ _) (omega (arith, f .1, ap (payload s) (before (i + 1 + 1)))) refl (G.local-function x z w (f .0)), refl)
 
   from-local : {h : Held} {b : Term} {i j v : ℕ} {t : Forest} → D h b localstat i j t v → G.Stat s rank P i j t × (v ≡ 0)
   unfolding localstat
@@ -450,22 +428,19 @@ module _ (s : List ℕ) (rank : Ranks) (limit : ℕ) (P : G.Phrases) (Q : Phrase
   from-label : {h : Held} {b : Term} {i j v : ℕ} {t : Forest} → D h b label i j t v → G.Stat s rank P i j t × (v ≡ 0)
   unfolding label
   from-label (node′ {i = i} (seq′ (expect′ x) (seq′ (expect′ y) (seq′ weigh′ (expect′ z))))) =
-      (retree (G.Stat s rank P _ _) (omega (arith, ap (payload s) (back-one (i + 1)))) refl (G.label (G.labelled x y z)), refl)
+      (retree (G.Stat s rank P _ _) (omega (arith, ap (payload s) (before (i + 1)))) refl (G.label (G.labelled x y z)), refl)
 
   from-goto : {h : Held} {b : Term} {i j v : ℕ} {t : Forest} → D h b gotostat i j t v → G.Stat s rank P i j t × (v ≡ 0)
   unfolding gotostat
   from-goto (node′ {i = i} (seq′ (expect′ x) (seq′ (expect′ y) weigh′))) =
-      (retree (G.Stat s rank P _ _) (omega (arith, ap (payload s) (back-one (i + 1)))) refl (G.goto x y), refl)
+      (retree (G.Stat s rank P _ _) (omega (arith, ap (payload s) (before (i + 1)))) refl (G.goto x y), refl)
 
   from-break : {h : Held} {b : Term} {i j v : ℕ} {t : Forest} → kind s i ≡ Break → D h b breakstat i j t v → G.Stat s rank P i j t × (v ≡ 0)
   unfolding breakstat
   from-break x (node′ (any′ y)) = (G.break x, refl)
 
   -- {'.' Name} [':' Name]
-  abbrev more-fieldnames : Term
-  more-fieldnames = on ahead (Dot ∷ []) ((any ⨾ nameleaf ⨾ plus 2) ⨾ again) empty
-
-  from-fieldnames : {h : Held} {i j k v w m : ℕ} {t u : Forest} → D h more-fieldnames more-fieldnames i j t v → G.Fields s rank P j k w u → m ≡ v + w → G.Fields s rank P i k m (join t u)
+  from-fieldnames : {h : Held} {i j k v w m : ℕ} {t u : Forest} → D h fieldname-turn fieldname-turn i j t v → G.Fields s rank P j k w u → m ≡ v + w → G.Fields s rank P i k m (join t u)
   from-fieldnames (that′ y empty′) l e = revalue (G.Fields s rank P _ _) (omega arith) l
   from-fieldnames {u = u} (this′ {i = i} y (seq′ {u = r} (seq′ (any′ z) (seq′ (seq′ (expect′ w) leaf′) plus′)) (again′ d))) l e =
       revalue (G.Fields s rank P _ _) (omega arith) (subst (G.Fields s rank P _ _ _) (ap (λ x. join x (join r u)) (sym (name-back (i + 1)))) (G.field-name (only y) w (from-fieldnames d l refl)))
@@ -512,10 +487,7 @@ module _ (s : List ℕ) (rank : Ranks) (limit : ℕ) (P : G.Phrases) (Q : Phrase
   more-vars : {i j k n : ℕ} {t u : Forest} → Target i j t → kind s j ≡ Comma → G.Varlist s rank P (j + 1) k n u → G.Varlist s rank P i k (suc n) (join t u)
   more-vars (targeted w) x l = G.more-vars w x l
 
-  abbrev more-targets : Term
-  more-targets = on check (Comma ∷ []) ((any ⨾ kept target 3 suffixed ⨾ plus 1) ⨾ again) empty
-
-  from-targets : {h : Held} {i j k v m : ℕ} {t u : Forest} → Target i j t → D h more-targets more-targets j k u v → m ≡ 1 + v → G.Varlist s rank P i k m (join t u)
+  from-targets : {h : Held} {i j k v m : ℕ} {t u : Forest} → Target i j t → D h target-turn target-turn j k u v → m ≡ 1 + v → G.Varlist s rank P i k m (join t u)
   from-targets {t = t} w (that′ y empty′) e = revalue (G.Varlist s rank P _ _) (sym e) (subst (G.Varlist s rank P _ _ 1) (sym (join-none t)) (one-var w))
   from-targets {t = t} w (this′ y (seq′ {u = r} (seq′ (any′ x) (seq′ {t = a} (kept′ z d) plus′)) (again′ q))) e =
       let f = from-target (from-suffixed d) z in
@@ -534,15 +506,14 @@ module _ (s : List ℕ) (rank : Ranks) (limit : ℕ) (P : G.Phrases) (Q : Phrase
 
   pub from-statement : {h : Held} {b : Term} {i j v : ℕ} {t : Forest} → D h b statement i j t v → G.Stat s rank P i j t × (v ≡ 0)
   unfolding statement
-  from-statement (this′ y d) = from-if d
-  from-statement (that′ a (this′ y d)) = from-while d
-  from-statement (that′ a (that′ c (this′ y d))) = from-do (only y) d
-  from-statement (that′ a (that′ c (that′ e (this′ y d)))) = from-for d
-  from-statement (that′ a (that′ c (that′ e (that′ f (this′ y d))))) = from-repeat d
-  from-statement (that′ a (that′ c (that′ e (that′ f (that′ g (this′ y d)))))) = from-function d
-  from-statement (that′ a (that′ c (that′ e (that′ f (that′ g (that′ h (this′ y (this′ z d)))))))) = from-local-function (only y) d
-  from-statement (that′ a (that′ c (that′ e (that′ f (that′ g (that′ h (this′ y (that′ z d)))))))) = from-local d
-  from-statement (that′ a (that′ c (that′ e (that′ f (that′ g (that′ h (that′ k (this′ y d)))))))) = from-label d
-  from-statement (that′ a (that′ c (that′ e (that′ f (that′ g (that′ h (that′ k (that′ l (this′ y d))))))))) = from-break (only y) d
-  from-statement (that′ a (that′ c (that′ e (that′ f (that′ g (that′ h (that′ k (that′ l (that′ m (this′ y d)))))))))) = from-goto d
-  from-statement (that′ a (that′ c (that′ e (that′ f (that′ g (that′ h (that′ k (that′ l (that′ m (that′ n d)))))))))) = from-exprstat d
+  from-statement d =
+      either d (λ y. from-if)
+      (λ n d. either d (λ y. from-while)
+      (λ n d. either d (λ y. from-do (only y))
+      (λ n d. either d (λ y. from-for)
+      (λ n d. either d (λ y. from-repeat)
+      (λ n d. either d (λ y. from-function)
+      (λ n d. either d (λ y d. either d (λ z. from-local-function (only y)) (λ z. from-local))
+      (λ n d. either d (λ y. from-label)
+      (λ n d. either d (λ y. from-break (only y))
+      (λ n d. either d (λ y. from-goto) (λ n. from-exprstat))))))))))

@@ -78,6 +78,12 @@ both s a c i j k m n =
     go h x (yes y) = m .real y x
     go h x (no y) = let q : i ≡ j = omega (arith, m .along) in n .real (omega arith) (subst (λ (p : ℕ). kind s p ≡ 59) q x)
 
+pub stepped : (s : List ℕ) (e : Term) (i j : ℕ) → consumes e ≡ true → Moves s e i j → Step s i j
+stepped s e i j c m =
+    let l = m .takes c in
+    let r = m .real l in
+    record { rises = l; real = r; within = m .within (omega (arith, inside s i r)) }
+
 kind-below : (k : ℕ) (a : ℕ) → a ≡ k → ltb k 59 ≡ true → a ≡ 59 → ⊥
 kind-below k a h l x = omega (arith, ltb-true k 59 l)
 
@@ -112,8 +118,4 @@ module _ (s : List ℕ) (rank : Ranks) (limit : ℕ) (P : Phrases)
   moves wb we (again′ {b = a} d) = alike s a again _ _ (λ h. wrong h) (moves wb wb d)
 
   pub steps-alone : (e : Term) → wellmade e ≡ true → consumes e ≡ true → Steps s (Alone s rank limit P e)
-  steps-alone e w c i j v t d =
-      let m = moves w w d in
-      let l = m .takes c in
-      let r = m .real l in
-      record { rises = l; real = r; within = m .within (omega (arith, inside s i r)) }
+  steps-alone e w c i j v t d = stepped s e i j c (moves w w d)

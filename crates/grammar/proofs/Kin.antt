@@ -15,7 +15,7 @@ use Rattle.grammar.specs.Member.{member}
 use Rattle.grammar.proofs.Form.{plain, closed}
 use Rattle.grammar.specs.Term.{empty, expect, any, leaf, weigh, coded, plus, exp, operand, stat, _⨾_, on, operator, refuse, node, lead, held, kept, iter, again}
 use Rattle.operators.specs.Ranks.{Ranks}
-use Rattle.grammar.specs.Compare.{Rises, stays, deeper, Like, nones, trees, expressions, Alike, fines, fails, deep-left, deep-right}
+use Rattle.grammar.specs.Compare.{Rises, stays, deeper, Like, nones, trees, expressions}
 use Rattle.grammar.specs.Reading.{hold, shaped, last, ends}
 use Rattle.stream.specs.declared.reader.Refusal.{Refusal}
 use Rattle.grammar.specs.Reading.{Out, fine, fail, Reader, Readers, add, then, leads, keep, misfit, wrap, loop, read, alone, reach}
@@ -174,49 +174,3 @@ pub like-shaped : (x : Shape) {a b : Forest} → Like a b → shaped x a ≡ sha
 like-shaped x nones = refl
 like-shaped x (trees {tag = n} k r) = ap (λ (z : ℕ). eqb n 29 && ends x z) (like-last 0 k)
 like-shaped x (expressions {k = k} {k′ = k′} h r) = ap (λ (z : ℕ). eqb z 29 && ends x (last 0 k)) h ∙ sym (ap (λ (z : ℕ). eqb z 29 && ends x (last 0 k′)) h)
-
-alike-add : {t u : Forest} → Like t u → (v : ℕ) (a b : Out) → Alike a b → Alike (add t v a) (add u v b)
-alike-add x v a b (fines y) = fines (like-join x y)
-alike-add x v a b fails = fails
-alike-add x v a b (deep-left y) = deep-left y
-alike-add x v a b (deep-right y) = deep-right y
-
-alike-then : (a b : Out) (f g : Reader) → Alike a b → ((q m : ℕ) → Alike (f q m) (g q m)) → Alike (then a f) (then b g)
-alike-then a b f g (fines {p = q} {m = m} {v = v} x) h = alike-add x v (f q m) (g q m) (h q m)
-alike-then a b f g fails h = fails
-alike-then a b f g (deep-left x) h = deep-left x
-alike-then a b f g (deep-right x) h = deep-right x
-
-alike-leads : (a b : Out) (f g : Forest → Reader) → Alike a b → ((t u : Forest) (q m : ℕ) → Like t u → Alike (f t q m) (g u q m)) → Alike (leads a f) (leads b g)
-alike-leads a b f g (fines {p = q} {m = m} {v = v} {t = t} {u = u} x) h = alike-add nones v (f t q m) (g u q m) (h t u q m x)
-alike-leads a b f g fails h = fails
-alike-leads a b f g (deep-left x) h = deep-left x
-alike-leads a b f g (deep-right x) h = deep-right x
-
-alike-keep : (x : Shape) (e : Refusal) (a b : Out) → Alike a b → Alike (keep x e a) (keep x e b)
-alike-keep x e a b (fines {p = p} {m = m} {v = v} {t = t} {u = u} y) = either2 Alike (shaped x t) (shaped x u) (fine p m t v) (fail e) (fine p m u v) (fail e) (like-shaped x y) (fines y) fails
-alike-keep x e a b fails = fails
-alike-keep x e a b (deep-left y) = deep-left y
-alike-keep x e a b (deep-right y) = deep-right y
-
-alike-wrap : (s : List ℕ) (tag : ℕ) (l : Line) (i : ℕ) (a b : Out) → Alike a b → Alike (wrap s tag l i a) (wrap s tag l i b)
-alike-wrap s tag l i a b (fines x) = fines (trees x nones)
-alike-wrap s tag l i a b fails = fails
-alike-wrap s tag l i a b (deep-left x) = deep-left x
-alike-wrap s tag l i a b (deep-right x) = deep-right x
-
-alike-same : (o : Out) → Alike o o
-alike-same (fine p m t v) = fines (like-same t)
-alike-same (fail e) = fails
-
-pub alike-kin : Kin Alike Like
-alike-kin =
-    record {
-      same = alike-same;
-      sames = like-same;
-      fines = λ p m v t u h. fines h;
-      thens = alike-then;
-      leadss = alike-leads;
-      keeps = alike-keep;
-      wraps = alike-wrap;
-    }

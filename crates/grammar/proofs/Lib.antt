@@ -3,6 +3,7 @@ pub mod Derives
 pub mod Sets
 pub mod Lower
 pub mod Shapes
+pub mod Turns
 pub mod Up
 pub mod Down
 pub mod Same
@@ -14,8 +15,8 @@ pub mod Made
 pub mod Levels
 pub mod Size
 pub mod Bare
-pub mod Rankings
 pub mod Unroll
+pub mod Rankings
 pub mod Scripts
 pub mod Unmet
 pub mod Theorems

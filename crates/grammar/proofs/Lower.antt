@@ -1,7 +1,8 @@
--- The phrases one level down, of the grammar and of the terms: what each says of the other. Assumes nothing.
+-- The phrases one level down, of the grammar and of the terms: what each says of the other. Then what Up and Down both use. Assumes nothing.
 use mathlib.Core.Path.{_≡_, subst}
 use mathlib.Core.List.{List, [], _∷_}
-use Prim.Native.Nat.{ℕ, _+_}
+use Prim.Native.Nat.{ℕ, _+_, _-_}
+use native.Mathlib.Omega.{arith}
 use Rattle.stream.specs.Kinds.{Name, LeftParen, DoubleColon, Break, Goto, Do, While, Repeat, If, For, Function, Local, Comma, Assign}
 use Rattle.stream.specs.Words.{kind}
 use Rattle.tree.specs.Forest.{Forest, none, tree}
@@ -31,3 +32,7 @@ retree A e f a = subst A (cc) a
 -- a count that is another name of a value
 pub revalue : {v v′ : ℕ} {t : Forest} (A : ℕ → Forest → Type 0) → v ≡ v′ → A v t → A v′ t
 revalue {t = t} A e a = subst (λ n. A n t) e a
+
+-- the token before the one after it
+pub before : (i : ℕ) → i + 1 - 1 ≡ i
+before i = omega arith

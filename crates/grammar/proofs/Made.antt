@@ -17,9 +17,9 @@ pub block-made : (wellmade block && guarded block) ≡ true
 unfolding explist retstat block
 block-made = refl
 
-pub all-plain : (plain statement && plain block && plain simple) ≡ true
-unfolding explist retstat block parlist funcbody field table args suffix primary suffixed simple head ifstat whilestat dostat forstat repeatstat functionstat localfunction localstat label breakstat gotostat exprstat statement
-all-plain = refl
+pub tail-made : (wellmade tail && guarded tail) ≡ true
+unfolding tail
+tail-made = refl
 
 pub head-made : (wellmade head && consumes head) ≡ true
 unfolding explist retstat block parlist funcbody field table args suffix primary suffixed simple head

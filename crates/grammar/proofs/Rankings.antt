@@ -13,25 +13,26 @@ use Rattle.tree.specs.Forest.{Forest, none}
 use Rattle.stream.specs.Words.{kind}
 use Rattle.grammar.specs.Term.{Term, next, Line, unlined, here, Shape}
 use Rattle.grammar.specs.Member.{member}
-use Rattle.grammar.proofs.Form.{wellmade, consumes}
+use Rattle.grammar.proofs.Form.{wellmade, guarded, consumes}
 use Rattle.grammar.specs.Term.{any, plus, exp, _⨾_, on, node}
 use Rattle.operators.specs.Ranks.{Ranks}
 use Rattle.grammar.specs.Reading.{hold, shaped}
 use Rattle.grammar.proofs.Derives.{Derives}
 use Rattle.stream.specs.declared.reader.Refusal.{Refusal}
 use Rattle.grammar.specs.Reading.{Out, fine, fail, Reader, Readers, add, then, leads, keep, wrap, loop, read}
-use Rattle.grammar.specs.Productions.{simple, head, tails, expression, statement, block}
+use Rattle.grammar.specs.Productions.{simple, head, tail, tails, expression, statement, block}
 use Rattle.grammar.proofs.Derives.{phrases}
 use Rattle.grammar.specs.Levels.{readers, finish, chunk}
 use Rattle.grammar.proofs.Sound.{fits-map, sound, sound-loop}
-use Rattle.grammar.proofs.Forward.{wrong, and-left, and-right, inside, Step, moves}
+use Rattle.grammar.proofs.Forward.{wrong, and-left, and-right, Step, stepped, moves}
 use Rattle.grammar.specs.Compare.{Like, nones, trees, expressions}
 use Rattle.grammar.proofs.Kin.{Kin, kindred, kindred-alone, either2, like-same, like-join, like-sym, like-trans, like-shaped}
 use Rattle.grammar.specs.Compare.{Alike, fines, fails, deep-left, deep-right}
-use Rattle.grammar.proofs.Made.{expression-made, head-made, statement-plain, simple-plain, simple-closed, block-plain}
+use Rattle.grammar.proofs.Made.{expression-made, head-made, tail-made, statement-plain, simple-plain, simple-closed, block-plain}
 use Rattle.grammar.proofs.Levels.{forward, sounds}
 use Rattle.grammar.proofs.Bare.{idem, Bare, at, stop, bare, bind, bind-assoc, bind-cong, bare-add, bare-then, bare-wrap, Lower, alike, deep, lower-eq, lower-trans, lower-bind, Ahead, ahead-fits, bind-lower, bind-eq, take, take-ahead}
-use Rattle.grammar.proofs.Bare.{turns, turn-above, turn-below, turn-mark, fuel}
+use Rattle.grammar.proofs.Bare.{turns, turn-above, turn-below, turn-mark}
+use Rattle.grammar.proofs.Unroll.{bit, fuels}
 
 -- the first is a refusal 5, or they are alike
 pub data Under : Out → Out → Type 0 where
@@ -102,10 +103,6 @@ wrap-under s i (fail e) (fine q m t v) (inr h) = five h
 wrap-under s i (fail e) (fail e′) (inl h) = let z : e ≡ e′ = cc in subst (λ (x : Refusal). Under (fail e) (fail x)) z equal
 wrap-under s i (fail e) (fail e′) (inr h) = five h
 
-abbrev bit : Bool → ℕ
-bit true = 1
-bit false = 0
-
 -- all operators alike, taken one by one
 abbrev pub flat : (ℕ → Bool) → Ranks
 flat ops = record { left = λ k. bit (ops k); right = λ k. 1 }
@@ -121,10 +118,7 @@ module _ (s : List ℕ) where
   head-step rank g l p j v t d =
       let f = forward s rank g in
       let e : wellmade expression ≡ true = and-left (wellmade expression) _ (and-left _ (consumes expression) expression-made) in
-      let m = moves s rank l (phrases s rank g) (f .0) (f .1) e (and-left (wellmade head) (consumes head) head-made) d in
-      let k = m .takes (and-right (wellmade head) (consumes head) head-made) in
-      let r = m .real k in
-      record { rises = k; real = r; within = m .within (omega (arith, inside s p r)) }
+      stepped s head p j (and-right (wellmade head) (consumes head) head-made) (moves s rank l (phrases s rank g) (f .0) (f .1) e (and-left (wellmade head) (consumes head) head-made) d)
 
   head-ahead : (rank : Ranks) (g l p m : ℕ) → Ahead s p (bare (heads rank l g p m))
   head-ahead rank g l p m =
@@ -175,7 +169,11 @@ module _ (s : List ℕ) (ops : ℕ → Bool) (rank : Ranks) (same-ops : (k : ℕ
   rest-mark M p m = turn-mark s (flat ops) 0 (readers s (flat ops) M) (length s) p m
 
   rest-fuel : (M q n : ℕ) → 0 < q → q ≤ length s → Rest M q n ≡ bare (turns s (flat ops) 0 (readers s (flat ops) M) (length s) q n)
-  rest-fuel M q n l b = fuel s (flat ops) 0 (readers s (flat ops) M) (ahead-exp s (flat ops) M) (suc (length s)) (length s) q n b (omega arith) (omega arith)
+  rest-fuel M q n l b =
+      let f = forward s (flat ops) M in
+      let h = sounds s (flat ops) M in
+      ap bare (fuels s (flat ops) 0 (phrases s (flat ops) M) (readers s (flat ops) M) (h .0) (h .1) (f .0) (f .1) (hold 0 0 none) tail
+      (and-left (wellmade tail) (guarded tail) tail-made) (and-right (wellmade tail) (guarded tail) tail-made) (suc (length s)) (length s) q n b (omega arith) (omega arith))
 
   -- an expression, and what is left of the chain after it, are one operand, and what is left of the chain after it
   abbrev Chains : ℕ → ℕ → ℕ → Type 0

@@ -19,7 +19,7 @@ use Rattle.grammar.specs.Reading.{Out, fine, fail, Reader, Readers, add,
 use Rattle.grammar.proofs.Sound.{Fits, Sound, fits-map, sound, sound-loop}
 use Rattle.grammar.proofs.Forward.{and-left, and-right, Moves, Steps, moves}
 
-abbrev bit : Bool → ℕ
+abbrev pub bit : Bool → ℕ
 bit true = 1
 bit false = 0
 

@@ -4,21 +4,21 @@
 use mathlib.Core.Path.{_≡_, refl, sym, ap, _∙_, subst, subst₂}
 use mathlib.Core.List.{List, [], _∷_}
 use mathlib.Core.Bool.{Bool, true, false}
-use Prim.Native.Nat.{ℕ, zero, suc, _+_, _-_, _*_}
+use Prim.Native.Nat.{ℕ, zero, suc, _+_, _*_}
 use native.Mathlib.Omega.{arith}
 use native.Mathlib.Nat.{mul-one, mul-zero}
 use borrow.Author.Tests.{eq-eqb, eqb-true}
-use Rattle.stream.specs.Kinds.{Else, ElseIf, End, EndOfStream, Function, In, Local, Not, Return, Then, Until}
-use Rattle.stream.specs.Kinds.{Minus, Len, Dots, Assign, Dot, SemiColon, Colon, Comma, LeftParen, RightParen, LeftBracket, LeftBrace, RightBrace, String, Name}
+use Rattle.stream.specs.Kinds.{Else, ElseIf, End, EndOfStream, Function, In, Local, Not, Return, Until}
+use Rattle.stream.specs.Kinds.{Minus, Len, Dots, Assign, SemiColon, Colon, Comma, LeftParen, RightParen, LeftBracket, LeftBrace, RightBrace, String, Name}
 use Rattle.stream.specs.Words.{kind, payload}
 use Rattle.operators.specs.Ranks.{Ranks, code, unary-code, find}
 use Rattle.tree.specs.Forest.{Forest, none, tree, join}
 use Rattle.tree.proofs.Lay.{join-none, join-assoc}
 use Rattle.grammar.specs.Member.{member}
-use Rattle.grammar.specs.Term.{Term, Look, ahead, next, check, second, far, unlined, here, target, call, many, opt, _⇒_∣_}
-use Rattle.grammar.specs.Term.{empty, any, leaf, weigh, coded, plus, exp, operand, stat, _⨾_, on, refuse, node, kept, iter, again}
+use Rattle.grammar.specs.Term.{Term, Look, ahead, next, check, second, far, unlined, here, call, many, opt}
+use Rattle.grammar.specs.Term.{empty, any, leaf, weigh, coded, plus, exp, operand, _⨾_, on, node, iter, again}
 use Rattle.grammar.specs.Reading.{Held}
-use Rattle.grammar.specs.Productions.{word, expr, nameleaf, explist, retstat, block, parlist, funcbody, args, suffix, primary, suffixed, simple, head, tail, tails, expression}
+use Rattle.grammar.specs.Productions.{word, nameleaf, explist, retstat, block, parlist, funcbody, args, suffix, primary, suffixed, simple, head, tail, tails, expression}
 use Rattle.grammar.specs.Productions.{ifstat, whilestat, dostat, forstat, repeatstat, functionstat, localfunction, localstat, breakstat, gotostat, exprstat, statement}
 use Rattle.grammar.specs.Productions as T
 use Rattle.grammar.specs.Grammar.{Among, Ends, first-exp, first-suffix, binop, unop, fieldsep, stated, made, name}
@@ -27,7 +27,8 @@ use Rattle.grammar.proofs.Derives.{Phrases, Derives}
 use Rattle.grammar.proofs.Derives.{empty′, expect′, any′, leaf′, weigh′, coded′, plus′, exp′, operand′, stat′, seq′, this′, that′, above′, below′, node′, lead′, held′, kept′, iter′, again′}
 use Rattle.grammar.proofs.Forward.{wrong, or-elim}
 use Rattle.grammar.proofs.Sets.{disjoint, subset, known, apart, within, only}
-use Rattle.grammar.proofs.Lower.{Lower, stat-tokens, retree}
+use Rattle.grammar.proofs.Lower.{Lower, stat-tokens, retree, before}
+use Rattle.grammar.proofs.Turns.{stops, exp-turn, stat-turn, param-turn, field-turn, suffix-turn, elseif-turn, name-turn, fieldname-turn, target-turn}
 use Rattle.grammar.proofs.Shapes.{last-var, last-call}
 
 -- what can follow a block, a field
@@ -52,38 +53,14 @@ data Picks (xs : List ℕ) : Term → Term → Type 0 where
 
 ruleset picks = (this, first, later, refl)
 
--- what begins a prefixexp, args; what ends the stats of a block
+-- what begins a prefixexp, args
 abbrev first-prefix : List ℕ
 first-prefix = Name ∷ LeftParen ∷ []
 
 abbrev first-args : List ℕ
 first-args = LeftParen ∷ LeftBrace ∷ String ∷ []
 
-abbrev stops : List ℕ
-stops = EndOfStream ∷ Else ∷ ElseIf ∷ End ∷ Until ∷ Return ∷ []
-
--- the bodies of repetitions, and other parts of productions
-abbrev exp-turn : ℕ → Term
-exp-turn w = on check (Comma ∷ []) ((any ⨾ plus w ⨾ expr) ⨾ again) empty
-
-abbrev stat-turn : Term
-stat-turn = on ahead stops empty (on ahead (SemiColon ∷ []) any stat ⨾ again)
-
-abbrev param-turn : Term
-param-turn = Name ⇒ any ⨾ leaf 30 ⨾ plus 2 ⨾ opt check (Comma ∷ []) (any ⨾ again) ∣ Dots ⇒ any ⨾ plus 1 ∣ refuse 63
-
-abbrev field-turn : Term
-field-turn = on check (RightBrace ∷ []) (word RightBrace) (plus 1 ⨾ T.field ⨾ on next fieldsep (any ⨾ again) (word RightBrace))
-
-abbrev suffix-turn : Term
-suffix-turn = on ahead first-suffix ((plus 1 ⨾ suffix) ⨾ again) empty
-
-abbrev more-names : Term
-more-names = many check (Comma ∷ []) (any ⨾ nameleaf ⨾ plus 1)
-
-abbrev more-targets : Term
-more-targets = many check (Comma ∷ []) (any ⨾ kept target 3 suffixed ⨾ plus 1)
-
+-- `local` on its own, or with `function` after it
 abbrev local : Term
 local = on second (Function ∷ []) localfunction localstat
 
@@ -140,9 +117,6 @@ module _ (s : List ℕ) (rank : Ranks) (limit : ℕ) (P : G.Phrases) (Q : Phrase
 
   take : {h : Held} {b : Term} {i k : ℕ} → kind s i ≡ k → member EndOfStream (k ∷ []) ≡ false → D h b any i (i + 1) none 0
   take {k} a f = skip (k ∷ []) (is a) f
-
-  before : (i : ℕ) → i + 1 - 1 ≡ i
-  before i = omega arith
 
   leafed : {h : Held} {b : Term} {i tag : ℕ} → D h b (leaf tag) (i + 1) (i + 1) (made s tag (payload s i) i none) 0
   leafed {h} {b} {i} {tag} = subst (λ p. D h b (leaf tag) (i + 1) (i + 1) (made s tag (payload s p) p none) 0) (before i) leaf′
@@ -414,7 +388,7 @@ module _ (s : List ℕ) (rank : Ranks) (limit : ℕ) (P : G.Phrases) (Q : Phrase
 
     -- the first and the rest of a namelist, before what follows it
     names : {h : Held} {b f : Term} {i j k n : ℕ} {t u : Forest} (A : Forest → ℕ → Type 0) → G.Namelist s rank P i j n t → Ends s (Comma ∷ []) j → D h b f j k u 0
-        → ((m : ℕ) (x : Forest) → kind s i ≡ Name → D h b (more-names ⨾ f) (i + 1) k x m → A (join (name s i) x) (1 + m)) → A (join t u) n
+        → ((m : ℕ) (x : Forest) → kind s i ≡ Name → D h b (iter name-turn ⨾ f) (i + 1) k x m → A (join (name s i) x) (1 + m)) → A (join t u) n
     names A (G.one-name a) e d g = g _ _ a (iter′ (that′ e empty′) ▸ d)
     names A (G.more-names a c l) e d g = subst (A _) (omega arith) (g _ _ a (names (D _ _ _ _ _) l e d (λ m x y r. more (is c) (take c refl ▸ named y ▸ plus′) r)))
 
@@ -435,7 +409,7 @@ module _ (s : List ℕ) (rank : Ranks) (limit : ℕ) (P : G.Phrases) (Q : Phrase
     namelist-second (G.more-names a c l) e = known (Comma ∷ In ∷ []) c refl
 
     to-fieldnames : {h : Held} {b f : Term} {i j k v : ℕ} {t u : Forest} → G.Fields s rank P i j v t → kind s j ≡ LeftParen → D h b f j k u 0
-        → D h b (many ahead (Dot ∷ []) (any ⨾ nameleaf ⨾ plus 2) ⨾ opt ahead (Colon ∷ []) (any ⨾ nameleaf ⨾ plus 1) ⨾ f) i k (join t u) v
+        → D h b (iter fieldname-turn ⨾ opt ahead (Colon ∷ []) (any ⨾ nameleaf ⨾ plus 1) ⨾ f) i k (join t u) v
     to-fieldnames G.no-method e d = over e refl (not e refl empty′ ▸ d)
     to-fieldnames (G.method a c) e d = over a refl (now a refl (take a refl ▸ named c ▸ plus′) ▹ d)
     to-fieldnames (G.field-name a c l) e d = more (is a) (take a refl ▸ named c ▸ plus′) (to-fieldnames l e d)
@@ -445,7 +419,7 @@ module _ (s : List ℕ) (rank : Ranks) (limit : ℕ) (P : G.Phrases) (Q : Phrase
     elseifs-first (G.elseif a x c b l) m = known block-ends a refl
 
     to-elseifs : {h : Held} {b f : Term} {i j k n v c : ℕ} {t u : Forest} → G.Elseifs s rank P i j n t → kind s j ≡ c → member c block-ends ≡ true → member c (ElseIf ∷ []) ≡ false → D h b f j k u v
-        → D h b (many check (ElseIf ∷ []) (any ⨾ plus 2 ⨾ expr ⨾ word Then ⨾ block) ⨾ f) i k (join t u) (2 * n + v)
+        → D h b (iter elseif-turn ⨾ f) i k (join t u) (2 * n + v)
     to-elseifs G.none-left e m z d = re refl (omega arith) (over e z d)
     to-elseifs (G.elseif a x c y l) e m z d =
         re (simp join-assoc) (omega arith)
@@ -456,12 +430,12 @@ module _ (s : List ℕ) (rank : Ranks) (limit : ℕ) (P : G.Phrases) (Q : Phrase
     a-target {j} v m = to-suffixed (G.var v) (apart (kind s j) (Assign ∷ Comma ∷ []) first-suffix refl m)
 
     vars : {b f : Term} {i j k n : ℕ} {t u : Forest} (A : Forest → ℕ → Type 0) → G.Varlist s rank P i j n t → kind s j ≡ Assign → ((h : Held) → D h b f j k u 0)
-        → ((p q m : ℕ) (t x : Forest) → G.Var s rank P i p q t → Among s (Assign ∷ Comma ∷ []) p → ((h : Held) → D h b (more-targets ⨾ f) p k x m) → A (join (made s 29 q i t) x) (1 + m)) → A (join t u) n
+        → ((p q m : ℕ) (t x : Forest) → G.Var s rank P i p q t → Among s (Assign ∷ Comma ∷ []) p → ((h : Held) → D h b (iter target-turn ⨾ f) p k x m) → A (join (made s 29 q i t) x) (1 + m)) → A (join t u) n
     vars A (G.one-var v) a d g = g _ _ _ _ _ v (known (Assign ∷ Comma ∷ []) a refl) (λ h. over a refl (d h))
     vars {b} {f} {k} A (G.more-vars {j = j} v c l) a d g =
         subst (A _) (omega arith)
         (g _ _ _ _ _ v (known (Assign ∷ Comma ∷ []) c refl)
-        (vars (λ x m. (h : Held) → D h b (more-targets ⨾ f) j k x m) l a d
+        (vars (λ x m. (h : Held) → D h b (iter target-turn ⨾ f) j k x m) l a d
         (λ p q m t x y e r h. more (is c) (take c refl ▸ kept′ (last-var s rank P y) (a-target y e) ▸ plus′) (r h))))
 
     -- what is said of a stat: what begins it, and what it is
