@@ -8,6 +8,7 @@ pub mod Up
 pub mod Down
 pub mod Same
 pub mod Sound
+pub mod Bounds
 pub mod Forward
 pub mod Complete
 pub mod Kin

@@ -72,6 +72,10 @@ module _ (s : List ℕ) (f : Formed s) where
   pub few : records s ≤ 1048577
   few = let z = sized-parts s (f .size) in omega arith
 
+  -- the end's record at least
+  pub some : 0 < records s
+  some = let z = sized-parts s (f .size) in omega arith
+
   -- the last record, and every record before it
   pub last : (p : ℕ) → p + 1 ≡ records s → (kind s p ≡ 59) × (payload s p ≡ 0) × (line s p ≤ most) × (line s p ≡ after s p)
   last p e = end-parts (kind s p) (payload s p) (line s p) (after s p) (sym (good-end s p e) ∙ f .each p (omega arith))

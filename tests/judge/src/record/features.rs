@@ -36,11 +36,11 @@ pub enum Feature {
 impl Feature {
     pub fn wanted(&self) -> usize {
         match self {
-            Feature::Fault(..) => 28,
-            Feature::Answer(..) => 16,
-            Feature::Record { .. } => 6,
-            Feature::Line { .. } => 6,
-            _ => 2,
+            Feature::Fault(..) => 8,
+            Feature::Answer(..) => 6,
+            Feature::Record { .. } => 2,
+            Feature::Line { .. } => 2,
+            _ => 1,
         }
     }
 }

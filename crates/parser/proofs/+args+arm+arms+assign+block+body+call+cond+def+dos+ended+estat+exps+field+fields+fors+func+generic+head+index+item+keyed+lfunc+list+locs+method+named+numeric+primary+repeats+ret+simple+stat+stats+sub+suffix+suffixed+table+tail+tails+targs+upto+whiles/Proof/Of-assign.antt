@@ -1,0 +1,216 @@
+use borrow.Author.Needs.{needs}
+use Prim.Native.Nat.{ℕ}
+use Rattle.parser.proofs.args.Reads as args
+use Rattle.parser.proofs.assign.Reads as assign
+use Rattle.parser.proofs.+args+arm+arms+assign+block+body+call+cond+def+dos+ended+estat+exps+field+fields+fors+func+generic+head+index+item+keyed+lfunc+list+locs+method+named+numeric+primary+repeats+ret+simple+stat+stats+sub+suffix+suffixed+table+tail+tails+targs+upto+whiles.Lts-assign as assign-lts
+use Rattle.parser.proofs.exps.Reads as exps
+use Rattle.parser.proofs.targs.Reads as targs
+use Rattle.parser.proofs.expect.Reads as expect-reads
+use Rattle.parser.proofs.+args+arm+arms+assign+block+body+call+cond+def+dos+ended+estat+exps+field+fields+fors+func+generic+head+index+item+keyed+lfunc+list+locs+method+named+numeric+primary+repeats+ret+simple+stat+stats+sub+suffix+suffixed+table+tail+tails+targs+upto+whiles.{}
+use Rattle.parser.proofs.+args+arm+arms+assign+block+body+call+cond+def+dos+ended+estat+exps+field+fields+fors+func+generic+head+index+item+keyed+lfunc+list+locs+method+named+numeric+primary+repeats+ret+simple+stat+stats+sub+suffix+suffixed+table+tail+tails+targs+upto+whiles.Proof.Levels.{assign-at, exps-below, targs-below}
+use mathlib.Core.Path.{refl, _∙_}
+use Prim.Native.Nat.{ℕ, _+_, _-_}
+use native.Mathlib.Omega.{arith}
+use Rattle.operators.specs.Ranks.{ranks}
+use Rattle.tree.specs.Forest.{none}
+use Rattle.grammar.specs.Reading.{read, hold, last}
+use Rattle.grammar.specs.Levels.{readers}
+use Rattle.grammar.specs.Term.{_⨾_}
+use Rattle.grammar.specs.Productions.{word}
+use Rattle.parser.specs.Contract.{again}
+use Rattle.parser.proofs.Kit.{revalue, kept, stop, past, both}
+use Rattle.parser.proofs.Looks.{settled, expect-meets, raise}
+use Rattle.grammar.specs.Productions.{explist}
+use Rattle.parser.proofs.Weights.{exps-light, light-fine, light-fail}
+
+pub assign-targs-requires : (t : ℕ) → assign-lts.Need-targs-requires (
+  targs-below t,
+  targs.Post,
+  expect-reads.Asked,
+  expect-reads.Learnt,
+  exps-below t,
+  exps.Post,
+) (assign-at t) assign.Post
+assign-targs-requires t c κs = (omega (arith, (c .before .before .before .pre) .0), ((c .before .before .before .pre) .1 .0))
+
+pub assign-enum-known-e : (t : ℕ) → assign-lts.Need-enum-known-e (
+  targs-below t,
+  targs.Post,
+  expect-reads.Asked,
+  expect-reads.Learnt,
+  exps-below t,
+  exps.Post,
+) (assign-at t) assign.Post
+assign-enum-known-e t c = search needs
+
+pub assign-enum-known-d : (t : ℕ) → assign-lts.Need-enum-known-d (
+  targs-below t,
+  targs.Post,
+  expect-reads.Asked,
+  expect-reads.Learnt,
+  exps-below t,
+  exps.Post,
+) (assign-at t) assign.Post
+assign-enum-known-d t c = search needs
+
+pub assign-expect-requires : (t : ℕ) → assign-lts.Need-expect-requires (
+  targs-below t,
+  targs.Post,
+  expect-reads.Asked,
+  expect-reads.Learnt,
+  exps-below t,
+  exps.Post,
+) (assign-at t) assign.Post
+assign-expect-requires t c κs = search needs
+
+pub assign-enum-known-e-2 : (t : ℕ) → assign-lts.Need-enum-known-e-2 (
+  targs-below t,
+  targs.Post,
+  expect-reads.Asked,
+  expect-reads.Learnt,
+  exps-below t,
+  exps.Post,
+) (assign-at t) assign.Post
+assign-enum-known-e-2 t c = search needs
+
+pub assign-enum-known-e-3 : (t : ℕ) → assign-lts.Need-enum-known-e-3 (
+  targs-below t,
+  targs.Post,
+  expect-reads.Asked,
+  expect-reads.Learnt,
+  exps-below t,
+  exps.Post,
+) (assign-at t) assign.Post
+assign-enum-known-e-3 t c = search needs
+
+pub assign-exps-requires : (t : ℕ) → assign-lts.Need-exps-requires (
+  targs-below t,
+  targs.Post,
+  expect-reads.Asked,
+  expect-reads.Learnt,
+  exps-below t,
+  exps.Post,
+) (assign-at t) assign.Post
+assign-exps-requires t c κs =
+    let y = rw ((c .before .before .before .before .before .before .d) .given .1) at ((c .before .before .before .before .before .before .before .before .before .before .targs) .ensures (((c .before .before .before .before .before .before .before .before .before .before .before .before .before .before .args) .c) .place) ((c .before .before .before .before .before .before .before .before .before .before .before .before .before .before .pre) .1 .1)) in
+    let f1 = y .0 in
+    let f2 = rw ((c .before .before .e3) .given .1) at (expect-meets ((c .before .before .before .before .before .before .before .before .before .before .before .before .before .before .args) .stream .now) (ranks ((c .before .before .before .before .before .before .before .before .before .before .before .before .before .before .args) .ranking)) 0 (readers ((c .before .before .before .before .before .before .before .before .before .before .before .before .before .before .args) .stream .now) (ranks ((c .before .before .before .before .before .before .before .before .before .before .before .before .before .before .args) .ranking)) ((c .before .before .before .before .before .before .before .before .before .before .before .before .before .before .args) .g)) (hold 0 (((c .before .before .before .before .before .before .before .before .before .before .before .before .before .before .args) .c) .place) none) again ((c .before .before .before .before .before .before .d) .given .0 .0) 37 refl refl (((c .before .before .before .before .before .before .before .before .before .before .before .before .before .before .pre) .1 .0) .formed) ((c .before .before .before .before .before .before .before .before .before .before .targs) .last .1 .0) ((c .before .before .before .before .before .before .d) .given .0 .1 .0) 1 (omega (arith, f1 .room)) ((c .before .before .before .before .expect) .result) ((c .before .before .before .before .expect) .ensures)) in
+    (omega (arith, (c .before .before .before .before .before .before .before .before .before .before .before .before .before .before .pre) .0), record { formed = ((c .before .before .before .before .before .before .before .before .before .before .before .before .before .before .pre) .1 .0) .formed; at = f2 .at; room = f2 .room })
+
+pub assign-enum-known-e-4 : (t : ℕ) → assign-lts.Need-enum-known-e-4 (
+  targs-below t,
+  targs.Post,
+  expect-reads.Asked,
+  expect-reads.Learnt,
+  exps-below t,
+  exps.Post,
+) (assign-at t) assign.Post
+assign-enum-known-e-4 t c = search needs
+
+pub assign-enum-known-f : (t : ℕ) → assign-lts.Need-enum-known-f (
+  targs-below t,
+  targs.Post,
+  expect-reads.Asked,
+  expect-reads.Learnt,
+  exps-below t,
+  exps.Post,
+) (assign-at t) assign.Post
+assign-enum-known-f t c = search needs
+
+pub assign-same-length : (t : ℕ) → assign-lts.Need-same-length (
+  targs-below t,
+  targs.Post,
+  expect-reads.Asked,
+  expect-reads.Learnt,
+  exps-below t,
+  exps.Post,
+) (assign-at t) assign.Post
+assign-same-length t c = (c .before .before .before .before .before .targs) .kept .1 .0
+
+pub assign-returns : (t : ℕ) → assign-lts.Need-returns (
+  targs-below t,
+  targs.Post,
+  expect-reads.Asked,
+  expect-reads.Learnt,
+  exps-below t,
+  exps.Post,
+) (assign-at t) assign.Post
+unfolding read explist
+assign-returns t c = stop (read ((c .before .before .before .before .before .before .before .before .before .args) .stream .now) (ranks ((c .before .before .before .before .before .before .before .before .before .args) .ranking)) 0 (readers ((c .before .before .before .before .before .before .before .before .before .args) .stream .now) (ranks ((c .before .before .before .before .before .before .before .before .before .args) .ranking)) ((c .before .before .before .before .before .before .before .before .before .args) .g)) (hold 0 (((c .before .before .before .before .before .before .before .before .before .args) .c) .place) none) (word 37 ⨾ explist 0) again) (rw ((c .before .e) .given .1) at ((c .before .before .before .before .before .targs) .ensures (((c .before .before .before .before .before .before .before .before .before .args) .c) .place) ((c .before .before .before .before .before .before .before .before .before .pre) .1 .1)))
+
+pub assign-same-length-2 : (t : ℕ) → assign-lts.Need-same-length-2 (
+  targs-below t,
+  targs.Post,
+  expect-reads.Asked,
+  expect-reads.Learnt,
+  exps-below t,
+  exps.Post,
+) (assign-at t) assign.Post
+assign-same-length-2 t c = (c .before .before .before .before .before .before .before .before .before .targs) .kept .1 .0
+
+pub assign-returns-2 : (t : ℕ) → assign-lts.Need-returns-2 (
+  targs-below t,
+  targs.Post,
+  expect-reads.Asked,
+  expect-reads.Learnt,
+  exps-below t,
+  exps.Post,
+) (assign-at t) assign.Post
+unfolding read explist
+assign-returns-2 t c =
+    let y = rw ((c .before .before .before .before .before .d) .given .1) at ((c .before .before .before .before .before .before .before .before .before .targs) .ensures (((c .before .before .before .before .before .before .before .before .before .before .before .before .before .args) .c) .place) ((c .before .before .before .before .before .before .before .before .before .before .before .before .before .pre) .1 .1)) in
+    let f1 = y .0 in
+    past (read ((c .before .before .before .before .before .before .before .before .before .before .before .before .before .args) .stream .now) (ranks ((c .before .before .before .before .before .before .before .before .before .before .before .before .before .args) .ranking)) 0 (readers ((c .before .before .before .before .before .before .before .before .before .before .before .before .before .args) .stream .now) (ranks ((c .before .before .before .before .before .before .before .before .before .before .before .before .before .args) .ranking)) ((c .before .before .before .before .before .before .before .before .before .before .before .before .before .args) .g)) (hold 0 (((c .before .before .before .before .before .before .before .before .before .before .before .before .before .args) .c) .place) none) (word 37 ⨾ explist 0) again) f1 (stop (read ((c .before .before .before .before .before .before .before .before .before .before .before .before .before .args) .stream .now) (ranks ((c .before .before .before .before .before .before .before .before .before .before .before .before .before .args) .ranking)) 0 (readers ((c .before .before .before .before .before .before .before .before .before .before .before .before .before .args) .stream .now) (ranks ((c .before .before .before .before .before .before .before .before .before .before .before .before .before .args) .ranking)) ((c .before .before .before .before .before .before .before .before .before .before .before .before .before .args) .g)) (hold 0 (((c .before .before .before .before .before .before .before .before .before .before .before .before .before .args) .c) .place) none) (explist 0) again) (rw ((c .before .e2) .given .1) at (expect-meets ((c .before .before .before .before .before .before .before .before .before .before .before .before .before .args) .stream .now) (ranks ((c .before .before .before .before .before .before .before .before .before .before .before .before .before .args) .ranking)) 0 (readers ((c .before .before .before .before .before .before .before .before .before .before .before .before .before .args) .stream .now) (ranks ((c .before .before .before .before .before .before .before .before .before .before .before .before .before .args) .ranking)) ((c .before .before .before .before .before .before .before .before .before .before .before .before .before .args) .g)) (hold 0 (((c .before .before .before .before .before .before .before .before .before .before .before .before .before .args) .c) .place) none) again ((c .before .before .before .before .before .d) .given .0 .0) 37 refl refl (((c .before .before .before .before .before .before .before .before .before .before .before .before .before .pre) .1 .0) .formed) ((c .before .before .before .before .before .before .before .before .before .targs) .last .1 .0) ((c .before .before .before .before .before .d) .given .0 .1 .0) 1 (omega (arith, f1 .room)) ((c .before .before .before .expect) .result) ((c .before .before .before .expect) .ensures))))
+
+pub assign-same-length-3 : (t : ℕ) → assign-lts.Need-same-length-3 (
+  targs-below t,
+  targs.Post,
+  expect-reads.Asked,
+  expect-reads.Learnt,
+  exps-below t,
+  exps.Post,
+) (assign-at t) assign.Post
+assign-same-length-3 t c = (c .before .before .before .before .before .exps) .kept .1 .0 ∙ (c .before .before .before .before .before .before .before .before .before .before .before .before .before .before .before .before .targs) .kept .1 .0
+
+pub assign-returns-3 : (t : ℕ) → assign-lts.Need-returns-3 (
+  targs-below t,
+  targs.Post,
+  expect-reads.Asked,
+  expect-reads.Learnt,
+  exps-below t,
+  exps.Post,
+) (assign-at t) assign.Post
+unfolding read explist
+assign-returns-3 t c =
+    let y = rw ((c .before .before .before .before .before .before .before .before .before .before .before .before .d) .given .1) at ((c .before .before .before .before .before .before .before .before .before .before .before .before .before .before .before .before .targs) .ensures (((c .before .before .before .before .before .before .before .before .before .before .before .before .before .before .before .before .before .before .before .before .args) .c) .place) ((c .before .before .before .before .before .before .before .before .before .before .before .before .before .before .before .before .before .before .before .before .pre) .1 .1)) in
+    let f1 = y .0 in
+    let f2 = rw ((c .before .before .before .before .before .before .before .before .e3) .given .1) at (expect-meets ((c .before .before .before .before .before .before .before .before .before .before .before .before .before .before .before .before .before .before .before .before .args) .stream .now) (ranks ((c .before .before .before .before .before .before .before .before .before .before .before .before .before .before .before .before .before .before .before .before .args) .ranking)) 0 (readers ((c .before .before .before .before .before .before .before .before .before .before .before .before .before .before .before .before .before .before .before .before .args) .stream .now) (ranks ((c .before .before .before .before .before .before .before .before .before .before .before .before .before .before .before .before .before .before .before .before .args) .ranking)) ((c .before .before .before .before .before .before .before .before .before .before .before .before .before .before .before .before .before .before .before .before .args) .g)) (hold 0 (((c .before .before .before .before .before .before .before .before .before .before .before .before .before .before .before .before .before .before .before .before .args) .c) .place) none) again ((c .before .before .before .before .before .before .before .before .before .before .before .before .d) .given .0 .0) 37 refl refl (((c .before .before .before .before .before .before .before .before .before .before .before .before .before .before .before .before .before .before .before .before .pre) .1 .0) .formed) ((c .before .before .before .before .before .before .before .before .before .before .before .before .before .before .before .before .targs) .last .1 .0) ((c .before .before .before .before .before .before .before .before .before .before .before .before .d) .given .0 .1 .0) 1 (omega (arith, f1 .room)) ((c .before .before .before .before .before .before .before .before .before .before .expect) .result) ((c .before .before .before .before .before .before .before .before .before .before .expect) .ensures)) in
+    let st = settled ((c .before .before .before .before .before .before .before .before .before .before .before .before .before .before .before .before .before .before .before .before .args) .stream .now) ((c .before .before .before .before .before .before .before .before .before .before .before .before .before .before .before .before .before .before .before .before .args) .ranking) 0 ((c .before .before .before .before .before .before .before .before .before .before .before .before .before .before .before .before .before .before .before .before .args) .g) (hold 0 (((c .before .before .before .before .before .before .before .before .before .before .before .before .before .before .before .before .before .before .before .before .args) .c) .place) none) again (explist 0) refl ((c .before .before .before .before .before .before .before .before .e3) .given .0 .0) ∙ exps-light ((c .before .before .before .before .before .before .before .before .before .before .before .before .before .before .before .before .before .before .before .before .args) .stream .now) ((c .before .before .before .before .before .before .before .before .before .before .before .before .before .before .before .before .before .before .before .before .args) .ranking) 0 ((c .before .before .before .before .before .before .before .before .before .before .before .before .before .before .before .before .before .before .before .before .args) .g) (hold 0 0 none) again ((c .before .before .before .before .before .before .before .before .e3) .given .0 .0) in
+    past (read ((c .before .before .before .before .before .before .before .before .before .before .before .before .before .before .before .before .before .before .before .before .args) .stream .now) (ranks ((c .before .before .before .before .before .before .before .before .before .before .before .before .before .before .before .before .before .before .before .before .args) .ranking)) 0 (readers ((c .before .before .before .before .before .before .before .before .before .before .before .before .before .before .before .before .before .before .before .before .args) .stream .now) (ranks ((c .before .before .before .before .before .before .before .before .before .before .before .before .before .before .before .before .before .before .before .before .args) .ranking)) ((c .before .before .before .before .before .before .before .before .before .before .before .before .before .before .before .before .before .before .before .before .args) .g)) (hold 0 (((c .before .before .before .before .before .before .before .before .before .before .before .before .before .before .before .before .before .before .before .before .args) .c) .place) none) (word 37 ⨾ explist 0) again) f1 (past (read ((c .before .before .before .before .before .before .before .before .before .before .before .before .before .before .before .before .before .before .before .before .args) .stream .now) (ranks ((c .before .before .before .before .before .before .before .before .before .before .before .before .before .before .before .before .before .before .before .before .args) .ranking)) 0 (readers ((c .before .before .before .before .before .before .before .before .before .before .before .before .before .before .before .before .before .before .before .before .args) .stream .now) (ranks ((c .before .before .before .before .before .before .before .before .before .before .before .before .before .before .before .before .before .before .before .before .args) .ranking)) ((c .before .before .before .before .before .before .before .before .before .before .before .before .before .before .before .before .before .before .before .before .args) .g)) (hold 0 (((c .before .before .before .before .before .before .before .before .before .before .before .before .before .before .before .before .before .before .before .before .args) .c) .place) none) (explist 0) again) f2 (light-fail st (rw ((c .before .e4) .given .1) at ((c .before .before .before .before .before .exps) .ensures))))
+
+pub assign-same-length-4 : (t : ℕ) → assign-lts.Need-same-length-4 (
+  targs-below t,
+  targs.Post,
+  expect-reads.Asked,
+  expect-reads.Learnt,
+  exps-below t,
+  exps.Post,
+) (assign-at t) assign.Post
+assign-same-length-4 t c = (c .before .before .before .before .before .exps) .kept .1 .0 ∙ (c .before .before .before .before .before .before .before .before .before .before .before .before .before .before .before .before .targs) .kept .1 .0
+
+pub assign-returns-4 : (t : ℕ) → assign-lts.Need-returns-4 (
+  targs-below t,
+  targs.Post,
+  expect-reads.Asked,
+  expect-reads.Learnt,
+  exps-below t,
+  exps.Post,
+) (assign-at t) assign.Post
+unfolding read explist
+assign-returns-4 t c =
+    let y = rw ((c .before .before .before .before .before .before .before .before .before .before .before .before .d) .given .1) at ((c .before .before .before .before .before .before .before .before .before .before .before .before .before .before .before .before .targs) .ensures (((c .before .before .before .before .before .before .before .before .before .before .before .before .before .before .before .before .before .before .before .before .args) .c) .place) ((c .before .before .before .before .before .before .before .before .before .before .before .before .before .before .before .before .before .before .before .before .pre) .1 .1)) in
+    let f1 = y .0 in
+    let f2 = rw ((c .before .before .before .before .before .before .before .before .e3) .given .1) at (expect-meets ((c .before .before .before .before .before .before .before .before .before .before .before .before .before .before .before .before .before .before .before .before .args) .stream .now) (ranks ((c .before .before .before .before .before .before .before .before .before .before .before .before .before .before .before .before .before .before .before .before .args) .ranking)) 0 (readers ((c .before .before .before .before .before .before .before .before .before .before .before .before .before .before .before .before .before .before .before .before .args) .stream .now) (ranks ((c .before .before .before .before .before .before .before .before .before .before .before .before .before .before .before .before .before .before .before .before .args) .ranking)) ((c .before .before .before .before .before .before .before .before .before .before .before .before .before .before .before .before .before .before .before .before .args) .g)) (hold 0 (((c .before .before .before .before .before .before .before .before .before .before .before .before .before .before .before .before .before .before .before .before .args) .c) .place) none) again ((c .before .before .before .before .before .before .before .before .before .before .before .before .d) .given .0 .0) 37 refl refl (((c .before .before .before .before .before .before .before .before .before .before .before .before .before .before .before .before .before .before .before .before .pre) .1 .0) .formed) ((c .before .before .before .before .before .before .before .before .before .before .before .before .before .before .before .before .targs) .last .1 .0) ((c .before .before .before .before .before .before .before .before .before .before .before .before .d) .given .0 .1 .0) 1 (omega (arith, f1 .room)) ((c .before .before .before .before .before .before .before .before .before .before .expect) .result) ((c .before .before .before .before .before .before .before .before .before .before .expect) .ensures)) in
+    let st = settled ((c .before .before .before .before .before .before .before .before .before .before .before .before .before .before .before .before .before .before .before .before .args) .stream .now) ((c .before .before .before .before .before .before .before .before .before .before .before .before .before .before .before .before .before .before .before .before .args) .ranking) 0 ((c .before .before .before .before .before .before .before .before .before .before .before .before .before .before .before .before .before .before .before .before .args) .g) (hold 0 (((c .before .before .before .before .before .before .before .before .before .before .before .before .before .before .before .before .before .before .before .before .args) .c) .place) none) again (explist 0) refl ((c .before .before .before .before .before .before .before .before .e3) .given .0 .0) ∙ exps-light ((c .before .before .before .before .before .before .before .before .before .before .before .before .before .before .before .before .before .before .before .before .args) .stream .now) ((c .before .before .before .before .before .before .before .before .before .before .before .before .before .before .before .before .before .before .before .before .args) .ranking) 0 ((c .before .before .before .before .before .before .before .before .before .before .before .before .before .before .before .before .before .before .before .before .args) .g) (hold 0 0 none) again ((c .before .before .before .before .before .before .before .before .e3) .given .0 .0) in
+    let f3 = rw ((c .before .f) .given .1) at ((c .before .before .before .before .before .exps) .ensures) in
+    (raise (((c .before .before .before .before .before .before .before .before .before .before .before .before .before .before .before .before .before .before .before .before .args) .c) .place + 1) (revalue (omega arith) (both (read ((c .before .before .before .before .before .before .before .before .before .before .before .before .before .before .before .before .before .before .before .before .args) .stream .now) (ranks ((c .before .before .before .before .before .before .before .before .before .before .before .before .before .before .before .before .before .before .before .before .args) .ranking)) 0 (readers ((c .before .before .before .before .before .before .before .before .before .before .before .before .before .before .before .before .before .before .before .before .args) .stream .now) (ranks ((c .before .before .before .before .before .before .before .before .before .before .before .before .before .before .before .before .before .before .before .before .args) .ranking)) ((c .before .before .before .before .before .before .before .before .before .before .before .before .before .before .before .before .before .before .before .before .args) .g)) (hold 0 (((c .before .before .before .before .before .before .before .before .before .before .before .before .before .before .before .before .before .before .before .before .args) .c) .place) none) (word 37 ⨾ explist 0) again) f1 (both (read ((c .before .before .before .before .before .before .before .before .before .before .before .before .before .before .before .before .before .before .before .before .args) .stream .now) (ranks ((c .before .before .before .before .before .before .before .before .before .before .before .before .before .before .before .before .before .before .before .before .args) .ranking)) 0 (readers ((c .before .before .before .before .before .before .before .before .before .before .before .before .before .before .before .before .before .before .before .before .args) .stream .now) (ranks ((c .before .before .before .before .before .before .before .before .before .before .before .before .before .before .before .before .before .before .before .before .args) .ranking)) ((c .before .before .before .before .before .before .before .before .before .before .before .before .before .before .before .before .before .before .before .before .args) .g)) (hold 0 (((c .before .before .before .before .before .before .before .before .before .before .before .before .before .before .before .before .before .before .before .before .args) .c) .place) none) (explist 0) again) f2 (light-fine st (f3 .0)) (omega arith)) (omega arith))) (omega (arith, f1 .later, f2 .later, f3 .0 .later)), omega (arith, y .1, f2 .later, f3 .0 .later))

@@ -1,0 +1,873 @@
+use borrow.Author.Needs.{needs}
+use Prim.Native.Nat.{ℕ}
+use Rattle.parser.proofs.args.Reads as args
+use Rattle.parser.proofs.arm.Reads as arm
+use Rattle.parser.proofs.arms.Reads as arms
+use Rattle.parser.proofs.cond.Reads as cond
+use Rattle.parser.proofs.+args+arm+arms+assign+block+body+call+cond+def+dos+ended+estat+exps+field+fields+fors+func+generic+head+index+item+keyed+lfunc+list+locs+method+named+numeric+primary+repeats+ret+simple+stat+stats+sub+suffix+suffixed+table+tail+tails+targs+upto+whiles.Lts-cond as cond-lts
+use Rattle.parser.proofs.ended.Reads as ended
+use Rattle.parser.proofs.close.Reads as close-reads
+use Rattle.parser.proofs.expect.Reads as expect-reads
+use Rattle.stream.proofs.reader.check_ahead.Reads as check-ahead-reads
+use Rattle.stream.proofs.reader.expect_next.Reads as expect-next-reads
+use Rattle.stream.proofs.reader.take_next.Reads as take-next-reads
+use Rattle.parser.proofs.+args+arm+arms+assign+block+body+call+cond+def+dos+ended+estat+exps+field+fields+fors+func+generic+head+index+item+keyed+lfunc+list+locs+method+named+numeric+primary+repeats+ret+simple+stat+stats+sub+suffix+suffixed+table+tail+tails+targs+upto+whiles.{}
+use Rattle.parser.proofs.+args+arm+arms+assign+block+body+call+cond+def+dos+ended+estat+exps+field+fields+fors+func+generic+head+index+item+keyed+lfunc+list+locs+method+named+numeric+primary+repeats+ret+simple+stat+stats+sub+suffix+suffixed+table+tail+tails+targs+upto+whiles.Proof.Levels.{arm-below, arms-below, cond-at, ended-below}
+use mathlib.Core.Path.{refl, sym, ap, _∙_}
+use mathlib.Core.List.{[], _∷_}
+use Prim.Native.Nat.{ℕ, _+_, _-_}
+use native.Mathlib.Omega.{arith}
+use borrow.Author.Tests.{not-true, not-false}
+use Rattle.operators.specs.Ranks.{ranks}
+use Rattle.tree.specs.Forest.{none}
+use Rattle.grammar.specs.Reading.{Out, read, hold, wrap, then, last}
+use Rattle.grammar.specs.Levels.{readers}
+use Rattle.grammar.specs.Term.{check, opening}
+use Rattle.grammar.specs.Term.{empty, any, plus, _⨾_, on}
+use Rattle.grammar.specs.Productions.{word}
+use Rattle.parser.specs.Contract.{again}
+use Rattle.parser.specs.Parts as P
+use Rattle.stream.proofs.Words.{few}
+use Rattle.parser.proofs.Steps.{taken, took-next, took-kind}
+use Rattle.parser.proofs.Kit.{alter, revalue, kept, looked, weighs, stop, past, both, over}
+use Rattle.parser.proofs.Tokens.{ready-after, any-fail, word-fail, any-fine, word-fine, checked-in, checked-out, check-place}
+use Rattle.parser.proofs.Looks.{expect-meets}
+use Rattle.grammar.specs.Productions.{expr, block as block′, ifstat}
+use Rattle.parser.proofs.Grouped.{then-assoc3}
+
+pub cond-expect-next-requires : (t : ℕ) → cond-lts.Need-expect-next-requires (
+  expect-next-reads.Asked,
+  expect-next-reads.Learnt,
+  arm-below t,
+  arm.Post,
+  arms-below t,
+  arms.Post,
+  check-ahead-reads.Asked,
+  check-ahead-reads.Learnt,
+  expect-reads.Asked,
+  expect-reads.Learnt,
+  close-reads.Asked,
+  close-reads.Learnt,
+  take-next-reads.Asked,
+  take-next-reads.Learnt,
+  ended-below t,
+  ended.Post,
+) (cond-at t) cond.Post
+cond-expect-next-requires t c κs = search needs
+
+pub cond-enum-known-d : (t : ℕ) → cond-lts.Need-enum-known-d (
+  expect-next-reads.Asked,
+  expect-next-reads.Learnt,
+  arm-below t,
+  arm.Post,
+  arms-below t,
+  arms.Post,
+  check-ahead-reads.Asked,
+  check-ahead-reads.Learnt,
+  expect-reads.Asked,
+  expect-reads.Learnt,
+  close-reads.Asked,
+  close-reads.Learnt,
+  take-next-reads.Asked,
+  take-next-reads.Learnt,
+  ended-below t,
+  ended.Post,
+) (cond-at t) cond.Post
+cond-enum-known-d t c = search needs
+
+pub cond-enum-known-e : (t : ℕ) → cond-lts.Need-enum-known-e (
+  expect-next-reads.Asked,
+  expect-next-reads.Learnt,
+  arm-below t,
+  arm.Post,
+  arms-below t,
+  arms.Post,
+  check-ahead-reads.Asked,
+  check-ahead-reads.Learnt,
+  expect-reads.Asked,
+  expect-reads.Learnt,
+  close-reads.Asked,
+  close-reads.Learnt,
+  take-next-reads.Asked,
+  take-next-reads.Learnt,
+  ended-below t,
+  ended.Post,
+) (cond-at t) cond.Post
+cond-enum-known-e t c = search needs
+
+pub cond-returns : (t : ℕ) → cond-lts.Need-returns (
+  expect-next-reads.Asked,
+  expect-next-reads.Learnt,
+  arm-below t,
+  arm.Post,
+  arms-below t,
+  arms.Post,
+  check-ahead-reads.Asked,
+  check-ahead-reads.Learnt,
+  expect-reads.Asked,
+  expect-reads.Learnt,
+  close-reads.Asked,
+  close-reads.Learnt,
+  take-next-reads.Asked,
+  take-next-reads.Learnt,
+  ended-below t,
+  ended.Post,
+) (cond-at t) cond.Post
+unfolding read ifstat
+cond-returns t c = ap (wrap ((c .before .before .before .before .before .before .args) .stream .now) 3 opening (((c .before .before .before .before .before .before .args) .c) .place)) (stop _ (word-fail ((c .before .before .before .before .before .before .args) .stream .now) (ranks ((c .before .before .before .before .before .before .args) .ranking)) 0 (readers ((c .before .before .before .before .before .before .args) .stream .now) (ranks ((c .before .before .before .before .before .before .args) .ranking)) ((c .before .before .before .before .before .before .args) .g)) (hold 0 0 none) again ((c .before .before .before .before .before .before .args) .c) 9 refl refl ((sym ((c .before .before .before .expect-next) .ensures)) ∙ (c .before .e) .given .1)))
+
+pub cond-add-arm : (t : ℕ) → cond-lts.Need-add-arm (
+  expect-next-reads.Asked,
+  expect-next-reads.Learnt,
+  arm-below t,
+  arm.Post,
+  arms-below t,
+  arms.Post,
+  check-ahead-reads.Asked,
+  check-ahead-reads.Learnt,
+  expect-reads.Asked,
+  expect-reads.Learnt,
+  close-reads.Asked,
+  close-reads.Learnt,
+  take-next-reads.Asked,
+  take-next-reads.Learnt,
+  ended-below t,
+  ended.Post,
+) (cond-at t) cond.Post
+cond-add-arm t c = let b = few ((c .before .before .before .before .before .before .before .args) .stream .now) (((c .before .before .before .before .before .before .before .pre) .1 .0) .formed) in omega (arith, ((c .before .before .before .before .before .before .before .pre) .1 .0) .room, ((c .before .before .before .before .before .before .before .pre) .1 .0) .at)
+
+pub cond-arm-requires : (t : ℕ) → cond-lts.Need-arm-requires (
+  expect-next-reads.Asked,
+  expect-next-reads.Learnt,
+  arm-below t,
+  arm.Post,
+  arms-below t,
+  arms.Post,
+  check-ahead-reads.Asked,
+  check-ahead-reads.Learnt,
+  expect-reads.Asked,
+  expect-reads.Learnt,
+  close-reads.Asked,
+  close-reads.Learnt,
+  take-next-reads.Asked,
+  take-next-reads.Learnt,
+  ended-below t,
+  ended.Post,
+) (cond-at t) cond.Post
+cond-arm-requires t c κs = (omega (arith, (c .before .before .before .before .before .before .before .pre) .0), ready-after (((c .before .before .before .before .before .before .before .args) .used) + 1) 1 (((c .before .before .before .before .before .before .before .pre) .1 .0) .formed) (took-kind ((c .before .before .before .before .before .before .before .args) .stream .now) ((c .before .before .before .before .before .before .before .args) .c) 9 ((sym ((c .before .before .before .before .expect-next) .ensures)) ∙ (c .before .before .d) .given .1) .0) (omega (arith, ((c .before .before .before .before .before .before .before .pre) .1 .0) .room)))
+
+pub cond-enum-known-e-2 : (t : ℕ) → cond-lts.Need-enum-known-e-2 (
+  expect-next-reads.Asked,
+  expect-next-reads.Learnt,
+  arm-below t,
+  arm.Post,
+  arms-below t,
+  arms.Post,
+  check-ahead-reads.Asked,
+  check-ahead-reads.Learnt,
+  expect-reads.Asked,
+  expect-reads.Learnt,
+  close-reads.Asked,
+  close-reads.Learnt,
+  take-next-reads.Asked,
+  take-next-reads.Learnt,
+  ended-below t,
+  ended.Post,
+) (cond-at t) cond.Post
+cond-enum-known-e-2 t c = search needs
+
+pub cond-enum-known-e-3 : (t : ℕ) → cond-lts.Need-enum-known-e-3 (
+  expect-next-reads.Asked,
+  expect-next-reads.Learnt,
+  arm-below t,
+  arm.Post,
+  arms-below t,
+  arms.Post,
+  check-ahead-reads.Asked,
+  check-ahead-reads.Learnt,
+  expect-reads.Asked,
+  expect-reads.Learnt,
+  close-reads.Asked,
+  close-reads.Learnt,
+  take-next-reads.Asked,
+  take-next-reads.Learnt,
+  ended-below t,
+  ended.Post,
+) (cond-at t) cond.Post
+cond-enum-known-e-3 t c = search needs
+
+pub cond-arms-requires : (t : ℕ) → cond-lts.Need-arms-requires (
+  expect-next-reads.Asked,
+  expect-next-reads.Learnt,
+  arm-below t,
+  arm.Post,
+  arms-below t,
+  arms.Post,
+  check-ahead-reads.Asked,
+  check-ahead-reads.Learnt,
+  expect-reads.Asked,
+  expect-reads.Learnt,
+  close-reads.Asked,
+  close-reads.Learnt,
+  take-next-reads.Asked,
+  take-next-reads.Learnt,
+  ended-below t,
+  ended.Post,
+) (cond-at t) cond.Post
+cond-arms-requires t c κs =
+    let fa = rw ((c .before .before .e3) .given .1) at ((c .before .before .before .before .before .before .arm) .ensures) in
+    (omega (arith, (c .before .before .before .before .before .before .before .before .before .before .before .before .before .before .pre) .0), record { formed = ((c .before .before .before .before .before .before .before .before .before .before .before .before .before .before .pre) .1 .0) .formed; at = fa .at; room = fa .room })
+
+pub cond-enum-known-e-4 : (t : ℕ) → cond-lts.Need-enum-known-e-4 (
+  expect-next-reads.Asked,
+  expect-next-reads.Learnt,
+  arm-below t,
+  arm.Post,
+  arms-below t,
+  arms.Post,
+  check-ahead-reads.Asked,
+  check-ahead-reads.Learnt,
+  expect-reads.Asked,
+  expect-reads.Learnt,
+  close-reads.Asked,
+  close-reads.Learnt,
+  take-next-reads.Asked,
+  take-next-reads.Learnt,
+  ended-below t,
+  ended.Post,
+) (cond-at t) cond.Post
+cond-enum-known-e-4 t c = search needs
+
+pub cond-enum-known-f : (t : ℕ) → cond-lts.Need-enum-known-f (
+  expect-next-reads.Asked,
+  expect-next-reads.Learnt,
+  arm-below t,
+  arm.Post,
+  arms-below t,
+  arms.Post,
+  check-ahead-reads.Asked,
+  check-ahead-reads.Learnt,
+  expect-reads.Asked,
+  expect-reads.Learnt,
+  close-reads.Asked,
+  close-reads.Learnt,
+  take-next-reads.Asked,
+  take-next-reads.Learnt,
+  ended-below t,
+  ended.Post,
+) (cond-at t) cond.Post
+cond-enum-known-f t c = search needs
+
+pub cond-check-ahead-requires : (t : ℕ) → cond-lts.Need-check-ahead-requires (
+  expect-next-reads.Asked,
+  expect-next-reads.Learnt,
+  arm-below t,
+  arm.Post,
+  arms-below t,
+  arms.Post,
+  check-ahead-reads.Asked,
+  check-ahead-reads.Learnt,
+  expect-reads.Asked,
+  expect-reads.Learnt,
+  close-reads.Asked,
+  close-reads.Learnt,
+  take-next-reads.Asked,
+  take-next-reads.Learnt,
+  ended-below t,
+  ended.Post,
+) (cond-at t) cond.Post
+cond-check-ahead-requires t c κs = search needs
+
+pub cond-expect-requires : (t : ℕ) → cond-lts.Need-expect-requires (
+  expect-next-reads.Asked,
+  expect-next-reads.Learnt,
+  arm-below t,
+  arm.Post,
+  arms-below t,
+  arms.Post,
+  check-ahead-reads.Asked,
+  check-ahead-reads.Learnt,
+  expect-reads.Asked,
+  expect-reads.Learnt,
+  close-reads.Asked,
+  close-reads.Learnt,
+  take-next-reads.Asked,
+  take-next-reads.Learnt,
+  ended-below t,
+  ended.Post,
+) (cond-at t) cond.Post
+cond-expect-requires t c κs = search needs
+
+pub cond-enum-known-e-5 : (t : ℕ) → cond-lts.Need-enum-known-e-5 (
+  expect-next-reads.Asked,
+  expect-next-reads.Learnt,
+  arm-below t,
+  arm.Post,
+  arms-below t,
+  arms.Post,
+  check-ahead-reads.Asked,
+  check-ahead-reads.Learnt,
+  expect-reads.Asked,
+  expect-reads.Learnt,
+  close-reads.Asked,
+  close-reads.Learnt,
+  take-next-reads.Asked,
+  take-next-reads.Learnt,
+  ended-below t,
+  ended.Post,
+) (cond-at t) cond.Post
+cond-enum-known-e-5 t c = search needs
+
+pub cond-enum-known-i : (t : ℕ) → cond-lts.Need-enum-known-i (
+  expect-next-reads.Asked,
+  expect-next-reads.Learnt,
+  arm-below t,
+  arm.Post,
+  arms-below t,
+  arms.Post,
+  check-ahead-reads.Asked,
+  check-ahead-reads.Learnt,
+  expect-reads.Asked,
+  expect-reads.Learnt,
+  close-reads.Asked,
+  close-reads.Learnt,
+  take-next-reads.Asked,
+  take-next-reads.Learnt,
+  ended-below t,
+  ended.Post,
+) (cond-at t) cond.Post
+cond-enum-known-i t c = search needs
+
+pub cond-close-requires : (t : ℕ) → cond-lts.Need-close-requires (
+  expect-next-reads.Asked,
+  expect-next-reads.Learnt,
+  arm-below t,
+  arm.Post,
+  arms-below t,
+  arms.Post,
+  check-ahead-reads.Asked,
+  check-ahead-reads.Learnt,
+  expect-reads.Asked,
+  expect-reads.Learnt,
+  close-reads.Asked,
+  close-reads.Learnt,
+  take-next-reads.Asked,
+  take-next-reads.Learnt,
+  ended-below t,
+  ended.Post,
+) (cond-at t) cond.Post
+cond-close-requires t c κs =
+    let fa = rw ((c .before .before .before .before .before .before .before .before .before .before .before .before .before .before .before .before .e3) .given .1) at ((c .before .before .before .before .before .before .before .before .before .before .before .before .before .before .before .before .before .before .before .before .arm) .ensures) in
+    let fs = rw ((c .before .before .before .before .before .before .before .before .before .f) .given .1) at ((c .before .before .before .before .before .before .before .before .before .before .before .before .before .arms) .ensures) in
+    let pl = check-place ((c .before .before .before .before .before .before .before .before .before .before .before .before .before .before .before .before .before .before .before .before .before .before .before .before .before .before .before .before .args) .stream .now) ((c .before .before .before .before .before .before .before .before .before .f) .given .0 .0) 0 2 ((c .before .before .before .before .before .before .before .check-ahead) .ensures) in
+    let me = expect-meets ((c .before .before .before .before .before .before .before .before .before .before .before .before .before .before .before .before .before .before .before .before .before .before .before .before .before .before .before .before .args) .stream .now) (ranks ((c .before .before .before .before .before .before .before .before .before .before .before .before .before .before .before .before .before .before .before .before .before .before .before .before .before .before .before .before .args) .ranking)) 0 (readers ((c .before .before .before .before .before .before .before .before .before .before .before .before .before .before .before .before .before .before .before .before .before .before .before .before .before .before .before .before .args) .stream .now) (ranks ((c .before .before .before .before .before .before .before .before .before .before .before .before .before .before .before .before .before .before .before .before .before .before .before .before .before .before .before .before .args) .ranking)) ((c .before .before .before .before .before .before .before .before .before .before .before .before .before .before .before .before .before .before .before .before .before .before .before .before .before .before .before .before .args) .g)) (hold 0 0 none) again (((c .before .before .before .before .before .before .before .check-ahead) .result) .cursor) 4 refl refl (((c .before .before .before .before .before .before .before .before .before .before .before .before .before .before .before .before .before .before .before .before .before .before .before .before .before .before .before .before .pre) .1 .0) .formed) ((c .before .before .before .before .before .before .before .before .before .before .before .before .before .arms) .last .1 .0) ((c .before .before .before .before .before .before .before .before .before .f) .given .0 .1 .0) 0 (omega (arith, fs .0 .room, pl)) ((c .before .before .before .before .expect) .result) ((c .before .before .before .before .expect) .ensures) in
+    let fe = rw ((c .before .before .i) .given .1) at me in
+    omega (arith, fa .grown, fs .0 .grown, fe .grown)
+
+pub cond-same-length : (t : ℕ) → cond-lts.Need-same-length (
+  expect-next-reads.Asked,
+  expect-next-reads.Learnt,
+  arm-below t,
+  arm.Post,
+  arms-below t,
+  arms.Post,
+  check-ahead-reads.Asked,
+  check-ahead-reads.Learnt,
+  expect-reads.Asked,
+  expect-reads.Learnt,
+  close-reads.Asked,
+  close-reads.Learnt,
+  take-next-reads.Asked,
+  take-next-reads.Learnt,
+  ended-below t,
+  ended.Post,
+) (cond-at t) cond.Post
+cond-same-length t c = (c .before .before .before .before .before .before .before .before .before .before .before .before .arms) .kept .1 .0 ∙ (c .before .before .before .before .before .before .before .before .before .before .before .before .before .before .before .before .before .before .before .arm) .kept .1 .0
+
+pub cond-returns-2 : (t : ℕ) → cond-lts.Need-returns-2 (
+  expect-next-reads.Asked,
+  expect-next-reads.Learnt,
+  arm-below t,
+  arm.Post,
+  arms-below t,
+  arms.Post,
+  check-ahead-reads.Asked,
+  check-ahead-reads.Learnt,
+  expect-reads.Asked,
+  expect-reads.Learnt,
+  close-reads.Asked,
+  close-reads.Learnt,
+  take-next-reads.Asked,
+  take-next-reads.Learnt,
+  ended-below t,
+  ended.Post,
+) (cond-at t) cond.Post
+unfolding read ifstat
+cond-returns-2 t c =
+    let f1 = word-fine ((c .before .before .before .before .before .before .before .before .before .before .before .before .before .before .before .before .before .before .before .before .before .before .before .before .before .before .before .args) .stream .now) (ranks ((c .before .before .before .before .before .before .before .before .before .before .before .before .before .before .before .before .before .before .before .before .before .before .before .before .before .before .before .args) .ranking)) 0 (readers ((c .before .before .before .before .before .before .before .before .before .before .before .before .before .before .before .before .before .before .before .before .before .before .before .before .before .before .before .args) .stream .now) (ranks ((c .before .before .before .before .before .before .before .before .before .before .before .before .before .before .before .before .before .before .before .before .before .before .before .before .before .before .before .args) .ranking)) ((c .before .before .before .before .before .before .before .before .before .before .before .before .before .before .before .before .before .before .before .before .before .before .before .before .before .before .before .args) .g)) (hold 0 0 none) again ((c .before .before .before .before .before .before .before .before .before .before .before .before .before .before .before .before .before .before .before .before .before .before .before .before .before .before .before .args) .c) ((c .before .before .before .before .before .before .before .before .before .before .before .before .before .before .before .before .before .before .before .before .before .before .before .before .before .before .before .args) .nodes .now) (((c .before .before .before .before .before .before .before .before .before .before .before .before .before .before .before .before .before .before .before .before .before .before .before .before .before .before .before .args) .used) + 1) 0 (((c .before .before .before .before .before .before .before .before .before .before .before .before .before .before .before .before .before .before .before .before .before .before .before .before .before .before .before .pre) .1 .0) .formed) (omega (arith, ((c .before .before .before .before .before .before .before .before .before .before .before .before .before .before .before .before .before .before .before .before .before .before .before .before .before .before .before .pre) .1 .0) .room)) 9 refl refl ((sym ((c .before .before .before .before .before .before .before .before .before .before .before .before .before .before .before .before .before .before .before .before .before .before .before .before .expect-next) .ensures)) ∙ (c .before .before .before .before .before .before .before .before .before .before .before .before .before .before .before .before .before .before .before .before .before .before .d) .given .1) in
+    let fa = rw ((c .before .before .before .before .before .before .before .before .before .before .before .before .before .before .before .e3) .given .1) at ((c .before .before .before .before .before .before .before .before .before .before .before .before .before .before .before .before .before .before .before .arm) .ensures) in
+    let fs = rw ((c .before .before .before .before .before .before .before .before .f) .given .1) at ((c .before .before .before .before .before .before .before .before .before .before .before .before .arms) .ensures) in
+    let pl = check-place ((c .before .before .before .before .before .before .before .before .before .before .before .before .before .before .before .before .before .before .before .before .before .before .before .before .before .before .before .args) .stream .now) ((c .before .before .before .before .before .before .before .before .f) .given .0 .0) 0 2 ((c .before .before .before .before .before .before .check-ahead) .ensures) in
+    let fo = looked {s = ((c .before .before .before .before .before .before .before .before .before .before .before .before .before .before .before .before .before .before .before .before .before .before .before .before .before .before .before .args) .stream .now)} {o = read ((c .before .before .before .before .before .before .before .before .before .before .before .before .before .before .before .before .before .before .before .before .before .before .before .before .before .before .before .args) .stream .now) (ranks ((c .before .before .before .before .before .before .before .before .before .before .before .before .before .before .before .before .before .before .before .before .before .before .before .before .before .before .before .args) .ranking)) 0 (readers ((c .before .before .before .before .before .before .before .before .before .before .before .before .before .before .before .before .before .before .before .before .before .before .before .before .before .before .before .args) .stream .now) (ranks ((c .before .before .before .before .before .before .before .before .before .before .before .before .before .before .before .before .before .before .before .before .before .before .before .before .before .before .before .args) .ranking)) ((c .before .before .before .before .before .before .before .before .before .before .before .before .before .before .before .before .before .before .before .before .before .before .before .before .before .before .before .args) .g)) (hold 0 0 none) (on check (2 ∷ []) (any ⨾ plus 1 ⨾ block′) empty) again (((c .before .before .before .before .before .before .before .before .f) .given .0 .0) .place) (((c .before .before .before .before .before .before .before .before .f) .given .0 .0) .mark)} ((c .before .before .before .before .before .before .before .before .before .before .before .before .arms) .last .1 .0) ((c .before .before .before .before .before .before .before .before .f) .given .0 .1 .0) 1 ((c .before .before .before .before .before .before .before .before .f) .given .0 .0) (((c .before .before .before .before .before .before .check-ahead) .result) .cursor) (checked-out ((c .before .before .before .before .before .before .before .before .before .before .before .before .before .before .before .before .before .before .before .before .before .before .before .before .before .before .before .args) .stream .now) (ranks ((c .before .before .before .before .before .before .before .before .before .before .before .before .before .before .before .before .before .before .before .before .before .before .before .before .before .before .before .args) .ranking)) 0 (readers ((c .before .before .before .before .before .before .before .before .before .before .before .before .before .before .before .before .before .before .before .before .before .before .before .before .before .before .before .args) .stream .now) (ranks ((c .before .before .before .before .before .before .before .before .before .before .before .before .before .before .before .before .before .before .before .before .before .before .before .before .before .before .before .args) .ranking)) ((c .before .before .before .before .before .before .before .before .before .before .before .before .before .before .before .before .before .before .before .before .before .before .before .before .before .before .before .args) .g)) (hold 0 0 none) again ((c .before .before .before .before .before .before .before .before .f) .given .0 .0) ((c .before .before .before .before .before .before .check-ahead) .result) 2 (any ⨾ plus 1 ⨾ block′) empty (λ z. omega arith) ((c .before .before .before .before .before .before .check-ahead) .ensures) (not-true (((c .before .before .before .before .before .before .check-ahead) .result) .found) ((c .before .before .before .before .if1) .taken))) pl (fs .0 .at) (fs .0 .room) in
+    let me = expect-meets ((c .before .before .before .before .before .before .before .before .before .before .before .before .before .before .before .before .before .before .before .before .before .before .before .before .before .before .before .args) .stream .now) (ranks ((c .before .before .before .before .before .before .before .before .before .before .before .before .before .before .before .before .before .before .before .before .before .before .before .before .before .before .before .args) .ranking)) 0 (readers ((c .before .before .before .before .before .before .before .before .before .before .before .before .before .before .before .before .before .before .before .before .before .before .before .before .before .before .before .args) .stream .now) (ranks ((c .before .before .before .before .before .before .before .before .before .before .before .before .before .before .before .before .before .before .before .before .before .before .before .before .before .before .before .args) .ranking)) ((c .before .before .before .before .before .before .before .before .before .before .before .before .before .before .before .before .before .before .before .before .before .before .before .before .before .before .before .args) .g)) (hold 0 0 none) again (((c .before .before .before .before .before .before .check-ahead) .result) .cursor) 4 refl refl (((c .before .before .before .before .before .before .before .before .before .before .before .before .before .before .before .before .before .before .before .before .before .before .before .before .before .before .before .pre) .1 .0) .formed) ((c .before .before .before .before .before .before .before .before .before .before .before .before .arms) .last .1 .0) ((c .before .before .before .before .before .before .before .before .f) .given .0 .1 .0) 0 (omega (arith, fs .0 .room, pl)) ((c .before .before .before .expect) .result) ((c .before .before .before .expect) .ensures) in
+    ap (wrap ((c .before .before .before .before .before .before .before .before .before .before .before .before .before .before .before .before .before .before .before .before .before .before .before .before .before .before .before .args) .stream .now) 3 opening (((c .before .before .before .before .before .before .before .before .before .before .before .before .before .before .before .before .before .before .before .before .before .before .before .before .before .before .before .args) .c) .place)) (past _ f1 ((sym (then-assoc3 (read ((c .before .before .before .before .before .before .before .before .before .before .before .before .before .before .before .before .before .before .before .before .before .before .before .before .before .before .before .args) .stream .now) (ranks ((c .before .before .before .before .before .before .before .before .before .before .before .before .before .before .before .before .before .before .before .before .before .before .before .before .before .before .before .args) .ranking)) 0 (readers ((c .before .before .before .before .before .before .before .before .before .before .before .before .before .before .before .before .before .before .before .before .before .before .before .before .before .before .before .args) .stream .now) (ranks ((c .before .before .before .before .before .before .before .before .before .before .before .before .before .before .before .before .before .before .before .before .before .before .before .before .before .before .before .args) .ranking)) ((c .before .before .before .before .before .before .before .before .before .before .before .before .before .before .before .before .before .before .before .before .before .before .before .before .before .before .before .args) .g)) (hold 0 0 none) expr again (((c .before .before .before .before .before .before .before .before .before .before .before .before .before .before .before .before .before .before .before .before .before .before .d) .given .0 .1 .0) .place) (((c .before .before .before .before .before .before .before .before .before .before .before .before .before .before .before .before .before .before .before .before .before .before .d) .given .0 .1 .0) .mark)) (read ((c .before .before .before .before .before .before .before .before .before .before .before .before .before .before .before .before .before .before .before .before .before .before .before .before .before .before .before .args) .stream .now) (ranks ((c .before .before .before .before .before .before .before .before .before .before .before .before .before .before .before .before .before .before .before .before .before .before .before .before .before .before .before .args) .ranking)) 0 (readers ((c .before .before .before .before .before .before .before .before .before .before .before .before .before .before .before .before .before .before .before .before .before .before .before .before .before .before .before .args) .stream .now) (ranks ((c .before .before .before .before .before .before .before .before .before .before .before .before .before .before .before .before .before .before .before .before .before .before .before .before .before .before .before .args) .ranking)) ((c .before .before .before .before .before .before .before .before .before .before .before .before .before .before .before .before .before .before .before .before .before .before .before .before .before .before .before .args) .g)) (hold 0 0 none) (word 18) again) (read ((c .before .before .before .before .before .before .before .before .before .before .before .before .before .before .before .before .before .before .before .before .before .before .before .before .before .before .before .args) .stream .now) (ranks ((c .before .before .before .before .before .before .before .before .before .before .before .before .before .before .before .before .before .before .before .before .before .before .before .before .before .before .before .args) .ranking)) 0 (readers ((c .before .before .before .before .before .before .before .before .before .before .before .before .before .before .before .before .before .before .before .before .before .before .before .before .before .before .before .args) .stream .now) (ranks ((c .before .before .before .before .before .before .before .before .before .before .before .before .before .before .before .before .before .before .before .before .before .before .before .before .before .before .before .args) .ranking)) ((c .before .before .before .before .before .before .before .before .before .before .before .before .before .before .before .before .before .before .before .before .before .before .before .before .before .before .before .args) .g)) (hold 0 0 none) block′ again) (read ((c .before .before .before .before .before .before .before .before .before .before .before .before .before .before .before .before .before .before .before .before .before .before .before .before .before .before .before .args) .stream .now) (ranks ((c .before .before .before .before .before .before .before .before .before .before .before .before .before .before .before .before .before .before .before .before .before .before .before .before .before .before .before .args) .ranking)) 0 (readers ((c .before .before .before .before .before .before .before .before .before .before .before .before .before .before .before .before .before .before .before .before .before .before .before .before .before .before .before .args) .stream .now) (ranks ((c .before .before .before .before .before .before .before .before .before .before .before .before .before .before .before .before .before .before .before .before .before .before .before .before .before .before .before .args) .ranking)) ((c .before .before .before .before .before .before .before .before .before .before .before .before .before .before .before .before .before .before .before .before .before .before .before .before .before .before .before .args) .g)) (hold 0 0 none) (P.arms ⨾ (on check (2 ∷ []) (any ⨾ plus 1 ⨾ block′) empty) ⨾ word 4) again))) ∙ past (read ((c .before .before .before .before .before .before .before .before .before .before .before .before .before .before .before .before .before .before .before .before .before .before .before .before .before .before .before .args) .stream .now) (ranks ((c .before .before .before .before .before .before .before .before .before .before .before .before .before .before .before .before .before .before .before .before .before .before .before .before .before .before .before .args) .ranking)) 0 (readers ((c .before .before .before .before .before .before .before .before .before .before .before .before .before .before .before .before .before .before .before .before .before .before .before .before .before .before .before .args) .stream .now) (ranks ((c .before .before .before .before .before .before .before .before .before .before .before .before .before .before .before .before .before .before .before .before .before .before .before .before .before .before .before .args) .ranking)) ((c .before .before .before .before .before .before .before .before .before .before .before .before .before .before .before .before .before .before .before .before .before .before .before .before .before .before .before .args) .g)) (hold 0 0 none) (P.arms ⨾ (on check (2 ∷ []) (any ⨾ plus 1 ⨾ block′) empty) ⨾ word 4) again) fa (past _ (fs .0) (past _ fo (rw ((c .before .e5) .given .1) at me)))))
+
+pub cond-same-length-2 : (t : ℕ) → cond-lts.Need-same-length-2 (
+  expect-next-reads.Asked,
+  expect-next-reads.Learnt,
+  arm-below t,
+  arm.Post,
+  arms-below t,
+  arms.Post,
+  check-ahead-reads.Asked,
+  check-ahead-reads.Learnt,
+  expect-reads.Asked,
+  expect-reads.Learnt,
+  close-reads.Asked,
+  close-reads.Learnt,
+  take-next-reads.Asked,
+  take-next-reads.Learnt,
+  ended-below t,
+  ended.Post,
+) (cond-at t) cond.Post
+cond-same-length-2 t c = (c .before .before .close) .kept .0 ∙ (c .before .before .before .before .before .before .before .before .before .before .before .before .before .before .before .before .arms) .kept .1 .0 ∙ (c .before .before .before .before .before .before .before .before .before .before .before .before .before .before .before .before .before .before .before .before .before .before .before .arm) .kept .1 .0
+
+pub cond-returns-3 : (t : ℕ) → cond-lts.Need-returns-3 (
+  expect-next-reads.Asked,
+  expect-next-reads.Learnt,
+  arm-below t,
+  arm.Post,
+  arms-below t,
+  arms.Post,
+  check-ahead-reads.Asked,
+  check-ahead-reads.Learnt,
+  expect-reads.Asked,
+  expect-reads.Learnt,
+  close-reads.Asked,
+  close-reads.Learnt,
+  take-next-reads.Asked,
+  take-next-reads.Learnt,
+  ended-below t,
+  ended.Post,
+) (cond-at t) cond.Post
+unfolding read ifstat
+cond-returns-3 t c =
+    let f1 = word-fine ((c .before .before .before .before .before .before .before .before .before .before .before .before .before .before .before .before .before .before .before .before .before .before .before .before .before .before .before .before .before .before .before .args) .stream .now) (ranks ((c .before .before .before .before .before .before .before .before .before .before .before .before .before .before .before .before .before .before .before .before .before .before .before .before .before .before .before .before .before .before .before .args) .ranking)) 0 (readers ((c .before .before .before .before .before .before .before .before .before .before .before .before .before .before .before .before .before .before .before .before .before .before .before .before .before .before .before .before .before .before .before .args) .stream .now) (ranks ((c .before .before .before .before .before .before .before .before .before .before .before .before .before .before .before .before .before .before .before .before .before .before .before .before .before .before .before .before .before .before .before .args) .ranking)) ((c .before .before .before .before .before .before .before .before .before .before .before .before .before .before .before .before .before .before .before .before .before .before .before .before .before .before .before .before .before .before .before .args) .g)) (hold 0 0 none) again ((c .before .before .before .before .before .before .before .before .before .before .before .before .before .before .before .before .before .before .before .before .before .before .before .before .before .before .before .before .before .before .before .args) .c) ((c .before .before .before .before .before .before .before .before .before .before .before .before .before .before .before .before .before .before .before .before .before .before .before .before .before .before .before .before .before .before .before .args) .nodes .now) (((c .before .before .before .before .before .before .before .before .before .before .before .before .before .before .before .before .before .before .before .before .before .before .before .before .before .before .before .before .before .before .before .args) .used) + 1) 0 (((c .before .before .before .before .before .before .before .before .before .before .before .before .before .before .before .before .before .before .before .before .before .before .before .before .before .before .before .before .before .before .before .pre) .1 .0) .formed) (omega (arith, ((c .before .before .before .before .before .before .before .before .before .before .before .before .before .before .before .before .before .before .before .before .before .before .before .before .before .before .before .before .before .before .before .pre) .1 .0) .room)) 9 refl refl ((sym ((c .before .before .before .before .before .before .before .before .before .before .before .before .before .before .before .before .before .before .before .before .before .before .before .before .before .before .before .before .expect-next) .ensures)) ∙ (c .before .before .before .before .before .before .before .before .before .before .before .before .before .before .before .before .before .before .before .before .before .before .before .before .before .before .d) .given .1) in
+    let fa = rw ((c .before .before .before .before .before .before .before .before .before .before .before .before .before .before .before .before .before .before .before .e3) .given .1) at ((c .before .before .before .before .before .before .before .before .before .before .before .before .before .before .before .before .before .before .before .before .before .before .before .arm) .ensures) in
+    let fs = rw ((c .before .before .before .before .before .before .before .before .before .before .before .before .f) .given .1) at ((c .before .before .before .before .before .before .before .before .before .before .before .before .before .before .before .before .arms) .ensures) in
+    let pl = check-place ((c .before .before .before .before .before .before .before .before .before .before .before .before .before .before .before .before .before .before .before .before .before .before .before .before .before .before .before .before .before .before .before .args) .stream .now) ((c .before .before .before .before .before .before .before .before .before .before .before .before .f) .given .0 .0) 0 2 ((c .before .before .before .before .before .before .before .before .before .before .check-ahead) .ensures) in
+    let fo = looked {s = ((c .before .before .before .before .before .before .before .before .before .before .before .before .before .before .before .before .before .before .before .before .before .before .before .before .before .before .before .before .before .before .before .args) .stream .now)} {o = read ((c .before .before .before .before .before .before .before .before .before .before .before .before .before .before .before .before .before .before .before .before .before .before .before .before .before .before .before .before .before .before .before .args) .stream .now) (ranks ((c .before .before .before .before .before .before .before .before .before .before .before .before .before .before .before .before .before .before .before .before .before .before .before .before .before .before .before .before .before .before .before .args) .ranking)) 0 (readers ((c .before .before .before .before .before .before .before .before .before .before .before .before .before .before .before .before .before .before .before .before .before .before .before .before .before .before .before .before .before .before .before .args) .stream .now) (ranks ((c .before .before .before .before .before .before .before .before .before .before .before .before .before .before .before .before .before .before .before .before .before .before .before .before .before .before .before .before .before .before .before .args) .ranking)) ((c .before .before .before .before .before .before .before .before .before .before .before .before .before .before .before .before .before .before .before .before .before .before .before .before .before .before .before .before .before .before .before .args) .g)) (hold 0 0 none) (on check (2 ∷ []) (any ⨾ plus 1 ⨾ block′) empty) again (((c .before .before .before .before .before .before .before .before .before .before .before .before .f) .given .0 .0) .place) (((c .before .before .before .before .before .before .before .before .before .before .before .before .f) .given .0 .0) .mark)} ((c .before .before .before .before .before .before .before .before .before .before .before .before .before .before .before .before .arms) .last .1 .0) ((c .before .before .before .before .before .before .before .before .before .before .before .before .f) .given .0 .1 .0) 1 ((c .before .before .before .before .before .before .before .before .before .before .before .before .f) .given .0 .0) (((c .before .before .before .before .before .before .before .before .before .before .check-ahead) .result) .cursor) (checked-out ((c .before .before .before .before .before .before .before .before .before .before .before .before .before .before .before .before .before .before .before .before .before .before .before .before .before .before .before .before .before .before .before .args) .stream .now) (ranks ((c .before .before .before .before .before .before .before .before .before .before .before .before .before .before .before .before .before .before .before .before .before .before .before .before .before .before .before .before .before .before .before .args) .ranking)) 0 (readers ((c .before .before .before .before .before .before .before .before .before .before .before .before .before .before .before .before .before .before .before .before .before .before .before .before .before .before .before .before .before .before .before .args) .stream .now) (ranks ((c .before .before .before .before .before .before .before .before .before .before .before .before .before .before .before .before .before .before .before .before .before .before .before .before .before .before .before .before .before .before .before .args) .ranking)) ((c .before .before .before .before .before .before .before .before .before .before .before .before .before .before .before .before .before .before .before .before .before .before .before .before .before .before .before .before .before .before .before .args) .g)) (hold 0 0 none) again ((c .before .before .before .before .before .before .before .before .before .before .before .before .f) .given .0 .0) ((c .before .before .before .before .before .before .before .before .before .before .check-ahead) .result) 2 (any ⨾ plus 1 ⨾ block′) empty (λ z. omega arith) ((c .before .before .before .before .before .before .before .before .before .before .check-ahead) .ensures) (not-true (((c .before .before .before .before .before .before .before .before .before .before .check-ahead) .result) .found) ((c .before .before .before .before .before .before .before .before .if1) .taken))) pl (fs .0 .at) (fs .0 .room) in
+    let me = expect-meets ((c .before .before .before .before .before .before .before .before .before .before .before .before .before .before .before .before .before .before .before .before .before .before .before .before .before .before .before .before .before .before .before .args) .stream .now) (ranks ((c .before .before .before .before .before .before .before .before .before .before .before .before .before .before .before .before .before .before .before .before .before .before .before .before .before .before .before .before .before .before .before .args) .ranking)) 0 (readers ((c .before .before .before .before .before .before .before .before .before .before .before .before .before .before .before .before .before .before .before .before .before .before .before .before .before .before .before .before .before .before .before .args) .stream .now) (ranks ((c .before .before .before .before .before .before .before .before .before .before .before .before .before .before .before .before .before .before .before .before .before .before .before .before .before .before .before .before .before .before .before .args) .ranking)) ((c .before .before .before .before .before .before .before .before .before .before .before .before .before .before .before .before .before .before .before .before .before .before .before .before .before .before .before .before .before .before .before .args) .g)) (hold 0 0 none) again (((c .before .before .before .before .before .before .before .before .before .before .check-ahead) .result) .cursor) 4 refl refl (((c .before .before .before .before .before .before .before .before .before .before .before .before .before .before .before .before .before .before .before .before .before .before .before .before .before .before .before .before .before .before .before .pre) .1 .0) .formed) ((c .before .before .before .before .before .before .before .before .before .before .before .before .before .before .before .before .arms) .last .1 .0) ((c .before .before .before .before .before .before .before .before .before .before .before .before .f) .given .0 .1 .0) 0 (omega (arith, fs .0 .room, pl)) ((c .before .before .before .before .before .before .before .expect) .result) ((c .before .before .before .before .before .before .before .expect) .ensures) in
+    let fe = rw ((c .before .before .before .before .before .i) .given .1) at me in
+    let b = both (read ((c .before .before .before .before .before .before .before .before .before .before .before .before .before .before .before .before .before .before .before .before .before .before .before .before .before .before .before .before .before .before .before .args) .stream .now) (ranks ((c .before .before .before .before .before .before .before .before .before .before .before .before .before .before .before .before .before .before .before .before .before .before .before .before .before .before .before .before .before .before .before .args) .ranking)) 0 (readers ((c .before .before .before .before .before .before .before .before .before .before .before .before .before .before .before .before .before .before .before .before .before .before .before .before .before .before .before .before .before .before .before .args) .stream .now) (ranks ((c .before .before .before .before .before .before .before .before .before .before .before .before .before .before .before .before .before .before .before .before .before .before .before .before .before .before .before .before .before .before .before .args) .ranking)) ((c .before .before .before .before .before .before .before .before .before .before .before .before .before .before .before .before .before .before .before .before .before .before .before .before .before .before .before .before .before .before .before .args) .g)) (hold 0 0 none) (P.arms ⨾ (on check (2 ∷ []) (any ⨾ plus 1 ⨾ block′) empty) ⨾ word 4) again) fa (both _ (fs .0) (both _ fo fe (omega (arith, pl))) (omega (arith, pl))) (omega (arith, fs .0 .later)) in
+    let w = revalue {w = (c .before .before .before .before .before .before .before .before .before .before .before .before .f) .given .0 .1 .1 .0} (omega arith) (both _ f1 (alter (sym (then-assoc3 (read ((c .before .before .before .before .before .before .before .before .before .before .before .before .before .before .before .before .before .before .before .before .before .before .before .before .before .before .before .before .before .before .before .args) .stream .now) (ranks ((c .before .before .before .before .before .before .before .before .before .before .before .before .before .before .before .before .before .before .before .before .before .before .before .before .before .before .before .before .before .before .before .args) .ranking)) 0 (readers ((c .before .before .before .before .before .before .before .before .before .before .before .before .before .before .before .before .before .before .before .before .before .before .before .before .before .before .before .before .before .before .before .args) .stream .now) (ranks ((c .before .before .before .before .before .before .before .before .before .before .before .before .before .before .before .before .before .before .before .before .before .before .before .before .before .before .before .before .before .before .before .args) .ranking)) ((c .before .before .before .before .before .before .before .before .before .before .before .before .before .before .before .before .before .before .before .before .before .before .before .before .before .before .before .before .before .before .before .args) .g)) (hold 0 0 none) expr again (((c .before .before .before .before .before .before .before .before .before .before .before .before .before .before .before .before .before .before .before .before .before .before .before .before .before .before .d) .given .0 .1 .0) .place) (((c .before .before .before .before .before .before .before .before .before .before .before .before .before .before .before .before .before .before .before .before .before .before .before .before .before .before .d) .given .0 .1 .0) .mark)) (read ((c .before .before .before .before .before .before .before .before .before .before .before .before .before .before .before .before .before .before .before .before .before .before .before .before .before .before .before .before .before .before .before .args) .stream .now) (ranks ((c .before .before .before .before .before .before .before .before .before .before .before .before .before .before .before .before .before .before .before .before .before .before .before .before .before .before .before .before .before .before .before .args) .ranking)) 0 (readers ((c .before .before .before .before .before .before .before .before .before .before .before .before .before .before .before .before .before .before .before .before .before .before .before .before .before .before .before .before .before .before .before .args) .stream .now) (ranks ((c .before .before .before .before .before .before .before .before .before .before .before .before .before .before .before .before .before .before .before .before .before .before .before .before .before .before .before .before .before .before .before .args) .ranking)) ((c .before .before .before .before .before .before .before .before .before .before .before .before .before .before .before .before .before .before .before .before .before .before .before .before .before .before .before .before .before .before .before .args) .g)) (hold 0 0 none) (word 18) again) (read ((c .before .before .before .before .before .before .before .before .before .before .before .before .before .before .before .before .before .before .before .before .before .before .before .before .before .before .before .before .before .before .before .args) .stream .now) (ranks ((c .before .before .before .before .before .before .before .before .before .before .before .before .before .before .before .before .before .before .before .before .before .before .before .before .before .before .before .before .before .before .before .args) .ranking)) 0 (readers ((c .before .before .before .before .before .before .before .before .before .before .before .before .before .before .before .before .before .before .before .before .before .before .before .before .before .before .before .before .before .before .before .args) .stream .now) (ranks ((c .before .before .before .before .before .before .before .before .before .before .before .before .before .before .before .before .before .before .before .before .before .before .before .before .before .before .before .before .before .before .before .args) .ranking)) ((c .before .before .before .before .before .before .before .before .before .before .before .before .before .before .before .before .before .before .before .before .before .before .before .before .before .before .before .before .before .before .before .args) .g)) (hold 0 0 none) block′ again) (read ((c .before .before .before .before .before .before .before .before .before .before .before .before .before .before .before .before .before .before .before .before .before .before .before .before .before .before .before .before .before .before .before .args) .stream .now) (ranks ((c .before .before .before .before .before .before .before .before .before .before .before .before .before .before .before .before .before .before .before .before .before .before .before .before .before .before .before .before .before .before .before .args) .ranking)) 0 (readers ((c .before .before .before .before .before .before .before .before .before .before .before .before .before .before .before .before .before .before .before .before .before .before .before .before .before .before .before .before .before .before .before .args) .stream .now) (ranks ((c .before .before .before .before .before .before .before .before .before .before .before .before .before .before .before .before .before .before .before .before .before .before .before .before .before .before .before .before .before .before .before .args) .ranking)) ((c .before .before .before .before .before .before .before .before .before .before .before .before .before .before .before .before .before .before .before .before .before .before .before .before .before .before .before .before .before .before .before .args) .g)) (hold 0 0 none) (P.arms ⨾ (on check (2 ∷ []) (any ⨾ plus 1 ⨾ block′) empty) ⨾ word 4) again))) b) (omega arith)) in
+    rw ((c .before .before .close) .ensures .0) (over 3 opening (((c .before .before .before .before .before .before .before .before .before .before .before .before .before .before .before .before .before .before .before .before .before .before .before .before .before .before .before .before .before .before .before .args) .c) .place) ((c .before .before .before .before .before .before .before .before .before .before .before .before .before .before .before .before .before .before .before .before .before .before .before .before .before .before .before .before .before .before .before .args) .line) w ((c .before .before .close) .ensures .1) ((c .before .before .before .before .before .before .before .before .before .before .before .before .before .before .before .before .before .before .before .before .before .before .before .before .before .before .before .before .before .before .before .pre) .1 .1))
+
+pub cond-take-next-requires : (t : ℕ) → cond-lts.Need-take-next-requires (
+  expect-next-reads.Asked,
+  expect-next-reads.Learnt,
+  arm-below t,
+  arm.Post,
+  arms-below t,
+  arms.Post,
+  check-ahead-reads.Asked,
+  check-ahead-reads.Learnt,
+  expect-reads.Asked,
+  expect-reads.Learnt,
+  close-reads.Asked,
+  close-reads.Learnt,
+  take-next-reads.Asked,
+  take-next-reads.Learnt,
+  ended-below t,
+  ended.Post,
+) (cond-at t) cond.Post
+cond-take-next-requires t c κs = search needs
+
+pub cond-enum-known-e-6 : (t : ℕ) → cond-lts.Need-enum-known-e-6 (
+  expect-next-reads.Asked,
+  expect-next-reads.Learnt,
+  arm-below t,
+  arm.Post,
+  arms-below t,
+  arms.Post,
+  check-ahead-reads.Asked,
+  check-ahead-reads.Learnt,
+  expect-reads.Asked,
+  expect-reads.Learnt,
+  close-reads.Asked,
+  close-reads.Learnt,
+  take-next-reads.Asked,
+  take-next-reads.Learnt,
+  ended-below t,
+  ended.Post,
+) (cond-at t) cond.Post
+cond-enum-known-e-6 t c = search needs
+
+pub cond-enum-known-i-2 : (t : ℕ) → cond-lts.Need-enum-known-i-2 (
+  expect-next-reads.Asked,
+  expect-next-reads.Learnt,
+  arm-below t,
+  arm.Post,
+  arms-below t,
+  arms.Post,
+  check-ahead-reads.Asked,
+  check-ahead-reads.Learnt,
+  expect-reads.Asked,
+  expect-reads.Learnt,
+  close-reads.Asked,
+  close-reads.Learnt,
+  take-next-reads.Asked,
+  take-next-reads.Learnt,
+  ended-below t,
+  ended.Post,
+) (cond-at t) cond.Post
+cond-enum-known-i-2 t c = search needs
+
+pub cond-ended-requires : (t : ℕ) → cond-lts.Need-ended-requires (
+  expect-next-reads.Asked,
+  expect-next-reads.Learnt,
+  arm-below t,
+  arm.Post,
+  arms-below t,
+  arms.Post,
+  check-ahead-reads.Asked,
+  check-ahead-reads.Learnt,
+  expect-reads.Asked,
+  expect-reads.Learnt,
+  close-reads.Asked,
+  close-reads.Learnt,
+  take-next-reads.Asked,
+  take-next-reads.Learnt,
+  ended-below t,
+  ended.Post,
+) (cond-at t) cond.Post
+cond-ended-requires t c κs =
+    let fa = rw ((c .before .before .before .before .before .before .before .before .before .before .before .before .before .before .before .before .e3) .given .1) at ((c .before .before .before .before .before .before .before .before .before .before .before .before .before .before .before .before .before .before .before .before .arm) .ensures) in
+    let fs = rw ((c .before .before .before .before .before .before .before .before .before .f) .given .1) at ((c .before .before .before .before .before .before .before .before .before .before .before .before .before .arms) .ensures) in
+    let pl = check-place ((c .before .before .before .before .before .before .before .before .before .before .before .before .before .before .before .before .before .before .before .before .before .before .before .before .before .before .before .before .args) .stream .now) ((c .before .before .before .before .before .before .before .before .before .f) .given .0 .0) 0 2 ((c .before .before .before .before .before .before .before .check-ahead) .ensures) in
+    (omega (arith, (c .before .before .before .before .before .before .before .before .before .before .before .before .before .before .before .before .before .before .before .before .before .before .before .before .before .before .before .before .pre) .0), ready-after ((c .before .before .before .before .before .before .before .before .before .f) .given .0 .1 .0) 0 (((c .before .before .before .before .before .before .before .before .before .before .before .before .before .before .before .before .before .before .before .before .before .before .before .before .before .before .before .before .pre) .1 .0) .formed) (took-next ((c .before .before .before .before .before .before .before .before .before .before .before .before .before .before .before .before .before .before .before .before .before .before .before .before .before .before .before .before .args) .stream .now) (((c .before .before .before .before .before .before .before .check-ahead) .result) .cursor) ((sym ((c .before .before .before .before .take-next) .ensures)) ∙ (c .before .before .i2) .given .1)) (omega (arith, fs .0 .room, pl)))
+
+pub cond-enum-known-e-7 : (t : ℕ) → cond-lts.Need-enum-known-e-7 (
+  expect-next-reads.Asked,
+  expect-next-reads.Learnt,
+  arm-below t,
+  arm.Post,
+  arms-below t,
+  arms.Post,
+  check-ahead-reads.Asked,
+  check-ahead-reads.Learnt,
+  expect-reads.Asked,
+  expect-reads.Learnt,
+  close-reads.Asked,
+  close-reads.Learnt,
+  take-next-reads.Asked,
+  take-next-reads.Learnt,
+  ended-below t,
+  ended.Post,
+) (cond-at t) cond.Post
+cond-enum-known-e-7 t c = search needs
+
+pub cond-enum-known-j : (t : ℕ) → cond-lts.Need-enum-known-j (
+  expect-next-reads.Asked,
+  expect-next-reads.Learnt,
+  arm-below t,
+  arm.Post,
+  arms-below t,
+  arms.Post,
+  check-ahead-reads.Asked,
+  check-ahead-reads.Learnt,
+  expect-reads.Asked,
+  expect-reads.Learnt,
+  close-reads.Asked,
+  close-reads.Learnt,
+  take-next-reads.Asked,
+  take-next-reads.Learnt,
+  ended-below t,
+  ended.Post,
+) (cond-at t) cond.Post
+cond-enum-known-j t c = search needs
+
+pub cond-add-close : (t : ℕ) → cond-lts.Need-add-close (
+  expect-next-reads.Asked,
+  expect-next-reads.Learnt,
+  arm-below t,
+  arm.Post,
+  arms-below t,
+  arms.Post,
+  check-ahead-reads.Asked,
+  check-ahead-reads.Learnt,
+  expect-reads.Asked,
+  expect-reads.Learnt,
+  close-reads.Asked,
+  close-reads.Learnt,
+  take-next-reads.Asked,
+  take-next-reads.Learnt,
+  ended-below t,
+  ended.Post,
+) (cond-at t) cond.Post
+cond-add-close t c =
+    let fa = rw ((c .before .before .before .before .before .before .before .before .before .before .before .before .before .before .before .before .before .before .before .before .before .before .before .e3) .given .1) at ((c .before .before .before .before .before .before .before .before .before .before .before .before .before .before .before .before .before .before .before .before .before .before .before .before .before .before .before .arm) .ensures) in
+    let fs = rw ((c .before .before .before .before .before .before .before .before .before .before .before .before .before .before .before .before .f) .given .1) at ((c .before .before .before .before .before .before .before .before .before .before .before .before .before .before .before .before .before .before .before .before .arms) .ensures) in
+    let pl = check-place ((c .before .before .before .before .before .before .before .before .before .before .before .before .before .before .before .before .before .before .before .before .before .before .before .before .before .before .before .before .before .before .before .before .before .before .before .args) .stream .now) ((c .before .before .before .before .before .before .before .before .before .before .before .before .before .before .before .before .f) .given .0 .0) 0 2 ((c .before .before .before .before .before .before .before .before .before .before .before .before .before .before .check-ahead) .ensures) in
+    let b = few ((c .before .before .before .before .before .before .before .before .before .before .before .before .before .before .before .before .before .before .before .before .before .before .before .before .before .before .before .before .before .before .before .before .before .before .before .args) .stream .now) (((c .before .before .before .before .before .before .before .before .before .before .before .before .before .before .before .before .before .before .before .before .before .before .before .before .before .before .before .before .before .before .before .before .before .before .before .pre) .1 .0) .formed) in omega (arith, fs .0 .at, fs .1)
+
+pub cond-close-requires-2 : (t : ℕ) → cond-lts.Need-close-requires-2 (
+  expect-next-reads.Asked,
+  expect-next-reads.Learnt,
+  arm-below t,
+  arm.Post,
+  arms-below t,
+  arms.Post,
+  check-ahead-reads.Asked,
+  check-ahead-reads.Learnt,
+  expect-reads.Asked,
+  expect-reads.Learnt,
+  close-reads.Asked,
+  close-reads.Learnt,
+  take-next-reads.Asked,
+  take-next-reads.Learnt,
+  ended-below t,
+  ended.Post,
+) (cond-at t) cond.Post
+cond-close-requires-2 t c κs =
+    let fa = rw ((c .before .before .before .before .before .before .before .before .before .before .before .before .before .before .before .before .before .before .before .before .before .before .before .e3) .given .1) at ((c .before .before .before .before .before .before .before .before .before .before .before .before .before .before .before .before .before .before .before .before .before .before .before .before .before .before .before .arm) .ensures) in
+    let fs = rw ((c .before .before .before .before .before .before .before .before .before .before .before .before .before .before .before .before .f) .given .1) at ((c .before .before .before .before .before .before .before .before .before .before .before .before .before .before .before .before .before .before .before .before .arms) .ensures) in
+    let pl = check-place ((c .before .before .before .before .before .before .before .before .before .before .before .before .before .before .before .before .before .before .before .before .before .before .before .before .before .before .before .before .before .before .before .before .before .before .before .args) .stream .now) ((c .before .before .before .before .before .before .before .before .before .before .before .before .before .before .before .before .f) .given .0 .0) 0 2 ((c .before .before .before .before .before .before .before .before .before .before .before .before .before .before .check-ahead) .ensures) in
+    let fe = rw ((c .before .before .j) .given .1) at ((c .before .before .before .before .before .before .ended) .ensures) in
+    omega (arith, fa .grown, fs .0 .grown, fe .grown)
+
+pub cond-same-length-3 : (t : ℕ) → cond-lts.Need-same-length-3 (
+  expect-next-reads.Asked,
+  expect-next-reads.Learnt,
+  arm-below t,
+  arm.Post,
+  arms-below t,
+  arms.Post,
+  check-ahead-reads.Asked,
+  check-ahead-reads.Learnt,
+  expect-reads.Asked,
+  expect-reads.Learnt,
+  close-reads.Asked,
+  close-reads.Learnt,
+  take-next-reads.Asked,
+  take-next-reads.Learnt,
+  ended-below t,
+  ended.Post,
+) (cond-at t) cond.Post
+cond-same-length-3 t c = (c .before .before .before .before .before .arm) .kept .1 .0
+
+pub cond-returns-4 : (t : ℕ) → cond-lts.Need-returns-4 (
+  expect-next-reads.Asked,
+  expect-next-reads.Learnt,
+  arm-below t,
+  arm.Post,
+  arms-below t,
+  arms.Post,
+  check-ahead-reads.Asked,
+  check-ahead-reads.Learnt,
+  expect-reads.Asked,
+  expect-reads.Learnt,
+  close-reads.Asked,
+  close-reads.Learnt,
+  take-next-reads.Asked,
+  take-next-reads.Learnt,
+  ended-below t,
+  ended.Post,
+) (cond-at t) cond.Post
+unfolding read ifstat
+cond-returns-4 t c =
+    let f1 = word-fine ((c .before .before .before .before .before .before .before .before .before .before .before .before .before .args) .stream .now) (ranks ((c .before .before .before .before .before .before .before .before .before .before .before .before .before .args) .ranking)) 0 (readers ((c .before .before .before .before .before .before .before .before .before .before .before .before .before .args) .stream .now) (ranks ((c .before .before .before .before .before .before .before .before .before .before .before .before .before .args) .ranking)) ((c .before .before .before .before .before .before .before .before .before .before .before .before .before .args) .g)) (hold 0 0 none) again ((c .before .before .before .before .before .before .before .before .before .before .before .before .before .args) .c) ((c .before .before .before .before .before .before .before .before .before .before .before .before .before .args) .nodes .now) (((c .before .before .before .before .before .before .before .before .before .before .before .before .before .args) .used) + 1) 0 (((c .before .before .before .before .before .before .before .before .before .before .before .before .before .pre) .1 .0) .formed) (omega (arith, ((c .before .before .before .before .before .before .before .before .before .before .before .before .before .pre) .1 .0) .room)) 9 refl refl ((sym ((c .before .before .before .before .before .before .before .before .before .before .expect-next) .ensures)) ∙ (c .before .before .before .before .before .before .before .before .d) .given .1) in
+    ap (wrap ((c .before .before .before .before .before .before .before .before .before .before .before .before .before .args) .stream .now) 3 opening (((c .before .before .before .before .before .before .before .before .before .before .before .before .before .args) .c) .place)) (past _ f1 ((sym (then-assoc3 (read ((c .before .before .before .before .before .before .before .before .before .before .before .before .before .args) .stream .now) (ranks ((c .before .before .before .before .before .before .before .before .before .before .before .before .before .args) .ranking)) 0 (readers ((c .before .before .before .before .before .before .before .before .before .before .before .before .before .args) .stream .now) (ranks ((c .before .before .before .before .before .before .before .before .before .before .before .before .before .args) .ranking)) ((c .before .before .before .before .before .before .before .before .before .before .before .before .before .args) .g)) (hold 0 0 none) expr again (((c .before .before .before .before .before .before .before .before .d) .given .0 .1 .0) .place) (((c .before .before .before .before .before .before .before .before .d) .given .0 .1 .0) .mark)) (read ((c .before .before .before .before .before .before .before .before .before .before .before .before .before .args) .stream .now) (ranks ((c .before .before .before .before .before .before .before .before .before .before .before .before .before .args) .ranking)) 0 (readers ((c .before .before .before .before .before .before .before .before .before .before .before .before .before .args) .stream .now) (ranks ((c .before .before .before .before .before .before .before .before .before .before .before .before .before .args) .ranking)) ((c .before .before .before .before .before .before .before .before .before .before .before .before .before .args) .g)) (hold 0 0 none) (word 18) again) (read ((c .before .before .before .before .before .before .before .before .before .before .before .before .before .args) .stream .now) (ranks ((c .before .before .before .before .before .before .before .before .before .before .before .before .before .args) .ranking)) 0 (readers ((c .before .before .before .before .before .before .before .before .before .before .before .before .before .args) .stream .now) (ranks ((c .before .before .before .before .before .before .before .before .before .before .before .before .before .args) .ranking)) ((c .before .before .before .before .before .before .before .before .before .before .before .before .before .args) .g)) (hold 0 0 none) block′ again) (read ((c .before .before .before .before .before .before .before .before .before .before .before .before .before .args) .stream .now) (ranks ((c .before .before .before .before .before .before .before .before .before .before .before .before .before .args) .ranking)) 0 (readers ((c .before .before .before .before .before .before .before .before .before .before .before .before .before .args) .stream .now) (ranks ((c .before .before .before .before .before .before .before .before .before .before .before .before .before .args) .ranking)) ((c .before .before .before .before .before .before .before .before .before .before .before .before .before .args) .g)) (hold 0 0 none) (P.arms ⨾ (on check (2 ∷ []) (any ⨾ plus 1 ⨾ block′) empty) ⨾ word 4) again))) ∙ stop _ (rw ((c .before .e2) .given .1) at ((c .before .before .before .before .before .arm) .ensures))))
+
+pub cond-same-length-4 : (t : ℕ) → cond-lts.Need-same-length-4 (
+  expect-next-reads.Asked,
+  expect-next-reads.Learnt,
+  arm-below t,
+  arm.Post,
+  arms-below t,
+  arms.Post,
+  check-ahead-reads.Asked,
+  check-ahead-reads.Learnt,
+  expect-reads.Asked,
+  expect-reads.Learnt,
+  close-reads.Asked,
+  close-reads.Learnt,
+  take-next-reads.Asked,
+  take-next-reads.Learnt,
+  ended-below t,
+  ended.Post,
+) (cond-at t) cond.Post
+cond-same-length-4 t c = (c .before .before .before .before .before .arms) .kept .1 .0 ∙ (c .before .before .before .before .before .before .before .before .before .before .before .before .arm) .kept .1 .0
+
+pub cond-returns-5 : (t : ℕ) → cond-lts.Need-returns-5 (
+  expect-next-reads.Asked,
+  expect-next-reads.Learnt,
+  arm-below t,
+  arm.Post,
+  arms-below t,
+  arms.Post,
+  check-ahead-reads.Asked,
+  check-ahead-reads.Learnt,
+  expect-reads.Asked,
+  expect-reads.Learnt,
+  close-reads.Asked,
+  close-reads.Learnt,
+  take-next-reads.Asked,
+  take-next-reads.Learnt,
+  ended-below t,
+  ended.Post,
+) (cond-at t) cond.Post
+unfolding read ifstat
+cond-returns-5 t c =
+    let f1 = word-fine ((c .before .before .before .before .before .before .before .before .before .before .before .before .before .before .before .before .before .before .before .before .args) .stream .now) (ranks ((c .before .before .before .before .before .before .before .before .before .before .before .before .before .before .before .before .before .before .before .before .args) .ranking)) 0 (readers ((c .before .before .before .before .before .before .before .before .before .before .before .before .before .before .before .before .before .before .before .before .args) .stream .now) (ranks ((c .before .before .before .before .before .before .before .before .before .before .before .before .before .before .before .before .before .before .before .before .args) .ranking)) ((c .before .before .before .before .before .before .before .before .before .before .before .before .before .before .before .before .before .before .before .before .args) .g)) (hold 0 0 none) again ((c .before .before .before .before .before .before .before .before .before .before .before .before .before .before .before .before .before .before .before .before .args) .c) ((c .before .before .before .before .before .before .before .before .before .before .before .before .before .before .before .before .before .before .before .before .args) .nodes .now) (((c .before .before .before .before .before .before .before .before .before .before .before .before .before .before .before .before .before .before .before .before .args) .used) + 1) 0 (((c .before .before .before .before .before .before .before .before .before .before .before .before .before .before .before .before .before .before .before .before .pre) .1 .0) .formed) (omega (arith, ((c .before .before .before .before .before .before .before .before .before .before .before .before .before .before .before .before .before .before .before .before .pre) .1 .0) .room)) 9 refl refl ((sym ((c .before .before .before .before .before .before .before .before .before .before .before .before .before .before .before .before .before .expect-next) .ensures)) ∙ (c .before .before .before .before .before .before .before .before .before .before .before .before .before .before .before .d) .given .1) in
+    let fa = rw ((c .before .before .before .before .before .before .before .before .e3) .given .1) at ((c .before .before .before .before .before .before .before .before .before .before .before .before .arm) .ensures) in
+    ap (wrap ((c .before .before .before .before .before .before .before .before .before .before .before .before .before .before .before .before .before .before .before .before .args) .stream .now) 3 opening (((c .before .before .before .before .before .before .before .before .before .before .before .before .before .before .before .before .before .before .before .before .args) .c) .place)) (past _ f1 ((sym (then-assoc3 (read ((c .before .before .before .before .before .before .before .before .before .before .before .before .before .before .before .before .before .before .before .before .args) .stream .now) (ranks ((c .before .before .before .before .before .before .before .before .before .before .before .before .before .before .before .before .before .before .before .before .args) .ranking)) 0 (readers ((c .before .before .before .before .before .before .before .before .before .before .before .before .before .before .before .before .before .before .before .before .args) .stream .now) (ranks ((c .before .before .before .before .before .before .before .before .before .before .before .before .before .before .before .before .before .before .before .before .args) .ranking)) ((c .before .before .before .before .before .before .before .before .before .before .before .before .before .before .before .before .before .before .before .before .args) .g)) (hold 0 0 none) expr again (((c .before .before .before .before .before .before .before .before .before .before .before .before .before .before .before .d) .given .0 .1 .0) .place) (((c .before .before .before .before .before .before .before .before .before .before .before .before .before .before .before .d) .given .0 .1 .0) .mark)) (read ((c .before .before .before .before .before .before .before .before .before .before .before .before .before .before .before .before .before .before .before .before .args) .stream .now) (ranks ((c .before .before .before .before .before .before .before .before .before .before .before .before .before .before .before .before .before .before .before .before .args) .ranking)) 0 (readers ((c .before .before .before .before .before .before .before .before .before .before .before .before .before .before .before .before .before .before .before .before .args) .stream .now) (ranks ((c .before .before .before .before .before .before .before .before .before .before .before .before .before .before .before .before .before .before .before .before .args) .ranking)) ((c .before .before .before .before .before .before .before .before .before .before .before .before .before .before .before .before .before .before .before .before .args) .g)) (hold 0 0 none) (word 18) again) (read ((c .before .before .before .before .before .before .before .before .before .before .before .before .before .before .before .before .before .before .before .before .args) .stream .now) (ranks ((c .before .before .before .before .before .before .before .before .before .before .before .before .before .before .before .before .before .before .before .before .args) .ranking)) 0 (readers ((c .before .before .before .before .before .before .before .before .before .before .before .before .before .before .before .before .before .before .before .before .args) .stream .now) (ranks ((c .before .before .before .before .before .before .before .before .before .before .before .before .before .before .before .before .before .before .before .before .args) .ranking)) ((c .before .before .before .before .before .before .before .before .before .before .before .before .before .before .before .before .before .before .before .before .args) .g)) (hold 0 0 none) block′ again) (read ((c .before .before .before .before .before .before .before .before .before .before .before .before .before .before .before .before .before .before .before .before .args) .stream .now) (ranks ((c .before .before .before .before .before .before .before .before .before .before .before .before .before .before .before .before .before .before .before .before .args) .ranking)) 0 (readers ((c .before .before .before .before .before .before .before .before .before .before .before .before .before .before .before .before .before .before .before .before .args) .stream .now) (ranks ((c .before .before .before .before .before .before .before .before .before .before .before .before .before .before .before .before .before .before .before .before .args) .ranking)) ((c .before .before .before .before .before .before .before .before .before .before .before .before .before .before .before .before .before .before .before .before .args) .g)) (hold 0 0 none) (P.arms ⨾ (on check (2 ∷ []) (any ⨾ plus 1 ⨾ block′) empty) ⨾ word 4) again))) ∙ past (read ((c .before .before .before .before .before .before .before .before .before .before .before .before .before .before .before .before .before .before .before .before .args) .stream .now) (ranks ((c .before .before .before .before .before .before .before .before .before .before .before .before .before .before .before .before .before .before .before .before .args) .ranking)) 0 (readers ((c .before .before .before .before .before .before .before .before .before .before .before .before .before .before .before .before .before .before .before .before .args) .stream .now) (ranks ((c .before .before .before .before .before .before .before .before .before .before .before .before .before .before .before .before .before .before .before .before .args) .ranking)) ((c .before .before .before .before .before .before .before .before .before .before .before .before .before .before .before .before .before .before .before .before .args) .g)) (hold 0 0 none) (P.arms ⨾ (on check (2 ∷ []) (any ⨾ plus 1 ⨾ block′) empty) ⨾ word 4) again) fa (stop _ (rw ((c .before .e4) .given .1) at ((c .before .before .before .before .before .arms) .ensures)))))
+
+pub cond-same-length-5 : (t : ℕ) → cond-lts.Need-same-length-5 (
+  expect-next-reads.Asked,
+  expect-next-reads.Learnt,
+  arm-below t,
+  arm.Post,
+  arms-below t,
+  arms.Post,
+  check-ahead-reads.Asked,
+  check-ahead-reads.Learnt,
+  expect-reads.Asked,
+  expect-reads.Learnt,
+  close-reads.Asked,
+  close-reads.Learnt,
+  take-next-reads.Asked,
+  take-next-reads.Learnt,
+  ended-below t,
+  ended.Post,
+) (cond-at t) cond.Post
+cond-same-length-5 t c = (c .before .before .before .before .before .before .before .before .before .before .before .before .arms) .kept .1 .0 ∙ (c .before .before .before .before .before .before .before .before .before .before .before .before .before .before .before .before .before .before .before .arm) .kept .1 .0
+
+pub cond-returns-6 : (t : ℕ) → cond-lts.Need-returns-6 (
+  expect-next-reads.Asked,
+  expect-next-reads.Learnt,
+  arm-below t,
+  arm.Post,
+  arms-below t,
+  arms.Post,
+  check-ahead-reads.Asked,
+  check-ahead-reads.Learnt,
+  expect-reads.Asked,
+  expect-reads.Learnt,
+  close-reads.Asked,
+  close-reads.Learnt,
+  take-next-reads.Asked,
+  take-next-reads.Learnt,
+  ended-below t,
+  ended.Post,
+) (cond-at t) cond.Post
+unfolding read ifstat
+cond-returns-6 t c =
+    let f1 = word-fine ((c .before .before .before .before .before .before .before .before .before .before .before .before .before .before .before .before .before .before .before .before .before .before .before .before .before .before .before .args) .stream .now) (ranks ((c .before .before .before .before .before .before .before .before .before .before .before .before .before .before .before .before .before .before .before .before .before .before .before .before .before .before .before .args) .ranking)) 0 (readers ((c .before .before .before .before .before .before .before .before .before .before .before .before .before .before .before .before .before .before .before .before .before .before .before .before .before .before .before .args) .stream .now) (ranks ((c .before .before .before .before .before .before .before .before .before .before .before .before .before .before .before .before .before .before .before .before .before .before .before .before .before .before .before .args) .ranking)) ((c .before .before .before .before .before .before .before .before .before .before .before .before .before .before .before .before .before .before .before .before .before .before .before .before .before .before .before .args) .g)) (hold 0 0 none) again ((c .before .before .before .before .before .before .before .before .before .before .before .before .before .before .before .before .before .before .before .before .before .before .before .before .before .before .before .args) .c) ((c .before .before .before .before .before .before .before .before .before .before .before .before .before .before .before .before .before .before .before .before .before .before .before .before .before .before .before .args) .nodes .now) (((c .before .before .before .before .before .before .before .before .before .before .before .before .before .before .before .before .before .before .before .before .before .before .before .before .before .before .before .args) .used) + 1) 0 (((c .before .before .before .before .before .before .before .before .before .before .before .before .before .before .before .before .before .before .before .before .before .before .before .before .before .before .before .pre) .1 .0) .formed) (omega (arith, ((c .before .before .before .before .before .before .before .before .before .before .before .before .before .before .before .before .before .before .before .before .before .before .before .before .before .before .before .pre) .1 .0) .room)) 9 refl refl ((sym ((c .before .before .before .before .before .before .before .before .before .before .before .before .before .before .before .before .before .before .before .before .before .before .before .before .expect-next) .ensures)) ∙ (c .before .before .before .before .before .before .before .before .before .before .before .before .before .before .before .before .before .before .before .before .before .before .d) .given .1) in
+    let fa = rw ((c .before .before .before .before .before .before .before .before .before .before .before .before .before .before .before .e3) .given .1) at ((c .before .before .before .before .before .before .before .before .before .before .before .before .before .before .before .before .before .before .before .arm) .ensures) in
+    let fs = rw ((c .before .before .before .before .before .before .before .before .f) .given .1) at ((c .before .before .before .before .before .before .before .before .before .before .before .before .arms) .ensures) in
+    let pl = check-place ((c .before .before .before .before .before .before .before .before .before .before .before .before .before .before .before .before .before .before .before .before .before .before .before .before .before .before .before .args) .stream .now) ((c .before .before .before .before .before .before .before .before .f) .given .0 .0) 0 2 ((c .before .before .before .before .before .before .check-ahead) .ensures) in
+    let p3 = ap (λ (z : Out). then z (read ((c .before .before .before .before .before .before .before .before .before .before .before .before .before .before .before .before .before .before .before .before .before .before .before .before .before .before .before .args) .stream .now) (ranks ((c .before .before .before .before .before .before .before .before .before .before .before .before .before .before .before .before .before .before .before .before .before .before .before .before .before .before .before .args) .ranking)) 0 (readers ((c .before .before .before .before .before .before .before .before .before .before .before .before .before .before .before .before .before .before .before .before .before .before .before .before .before .before .before .args) .stream .now) (ranks ((c .before .before .before .before .before .before .before .before .before .before .before .before .before .before .before .before .before .before .before .before .before .before .before .before .before .before .before .args) .ranking)) ((c .before .before .before .before .before .before .before .before .before .before .before .before .before .before .before .before .before .before .before .before .before .before .before .before .before .before .before .args) .g)) (hold 0 0 none) (word 4) again)) (checked-in ((c .before .before .before .before .before .before .before .before .before .before .before .before .before .before .before .before .before .before .before .before .before .before .before .before .before .before .before .args) .stream .now) (ranks ((c .before .before .before .before .before .before .before .before .before .before .before .before .before .before .before .before .before .before .before .before .before .before .before .before .before .before .before .args) .ranking)) 0 (readers ((c .before .before .before .before .before .before .before .before .before .before .before .before .before .before .before .before .before .before .before .before .before .before .before .before .before .before .before .args) .stream .now) (ranks ((c .before .before .before .before .before .before .before .before .before .before .before .before .before .before .before .before .before .before .before .before .before .before .before .before .before .before .before .args) .ranking)) ((c .before .before .before .before .before .before .before .before .before .before .before .before .before .before .before .before .before .before .before .before .before .before .before .before .before .before .before .args) .g)) (hold 0 0 none) again ((c .before .before .before .before .before .before .before .before .f) .given .0 .0) ((c .before .before .before .before .before .before .check-ahead) .result) 2 (any ⨾ plus 1 ⨾ block′) empty (λ z. omega arith) ((c .before .before .before .before .before .before .check-ahead) .ensures) (not-false (((c .before .before .before .before .before .before .check-ahead) .result) .found) ((c .before .before .before .before .if1) .left))) ∙ then-assoc3 (read ((c .before .before .before .before .before .before .before .before .before .before .before .before .before .before .before .before .before .before .before .before .before .before .before .before .before .before .before .args) .stream .now) (ranks ((c .before .before .before .before .before .before .before .before .before .before .before .before .before .before .before .before .before .before .before .before .before .before .before .before .before .before .before .args) .ranking)) 0 (readers ((c .before .before .before .before .before .before .before .before .before .before .before .before .before .before .before .before .before .before .before .before .before .before .before .before .before .before .before .args) .stream .now) (ranks ((c .before .before .before .before .before .before .before .before .before .before .before .before .before .before .before .before .before .before .before .before .before .before .before .before .before .before .before .args) .ranking)) ((c .before .before .before .before .before .before .before .before .before .before .before .before .before .before .before .before .before .before .before .before .before .before .before .before .before .before .before .args) .g)) (hold 0 0 none) any again (((c .before .before .before .before .before .before .check-ahead) .result) .cursor .place) (((c .before .before .before .before .before .before .check-ahead) .result) .cursor .mark)) (read ((c .before .before .before .before .before .before .before .before .before .before .before .before .before .before .before .before .before .before .before .before .before .before .before .before .before .before .before .args) .stream .now) (ranks ((c .before .before .before .before .before .before .before .before .before .before .before .before .before .before .before .before .before .before .before .before .before .before .before .before .before .before .before .args) .ranking)) 0 (readers ((c .before .before .before .before .before .before .before .before .before .before .before .before .before .before .before .before .before .before .before .before .before .before .before .before .before .before .before .args) .stream .now) (ranks ((c .before .before .before .before .before .before .before .before .before .before .before .before .before .before .before .before .before .before .before .before .before .before .before .before .before .before .before .args) .ranking)) ((c .before .before .before .before .before .before .before .before .before .before .before .before .before .before .before .before .before .before .before .before .before .before .before .before .before .before .before .args) .g)) (hold 0 0 none) (plus 1) again) (read ((c .before .before .before .before .before .before .before .before .before .before .before .before .before .before .before .before .before .before .before .before .before .before .before .before .before .before .before .args) .stream .now) (ranks ((c .before .before .before .before .before .before .before .before .before .before .before .before .before .before .before .before .before .before .before .before .before .before .before .before .before .before .before .args) .ranking)) 0 (readers ((c .before .before .before .before .before .before .before .before .before .before .before .before .before .before .before .before .before .before .before .before .before .before .before .before .before .before .before .args) .stream .now) (ranks ((c .before .before .before .before .before .before .before .before .before .before .before .before .before .before .before .before .before .before .before .before .before .before .before .before .before .before .before .args) .ranking)) ((c .before .before .before .before .before .before .before .before .before .before .before .before .before .before .before .before .before .before .before .before .before .before .before .before .before .before .before .args) .g)) (hold 0 0 none) block′ again) (read ((c .before .before .before .before .before .before .before .before .before .before .before .before .before .before .before .before .before .before .before .before .before .before .before .before .before .before .before .args) .stream .now) (ranks ((c .before .before .before .before .before .before .before .before .before .before .before .before .before .before .before .before .before .before .before .before .before .before .before .before .before .before .before .args) .ranking)) 0 (readers ((c .before .before .before .before .before .before .before .before .before .before .before .before .before .before .before .before .before .before .before .before .before .before .before .before .before .before .before .args) .stream .now) (ranks ((c .before .before .before .before .before .before .before .before .before .before .before .before .before .before .before .before .before .before .before .before .before .before .before .before .before .before .before .args) .ranking)) ((c .before .before .before .before .before .before .before .before .before .before .before .before .before .before .before .before .before .before .before .before .before .before .before .before .before .before .before .args) .g)) (hold 0 0 none) (word 4) again) in
+    ap (wrap ((c .before .before .before .before .before .before .before .before .before .before .before .before .before .before .before .before .before .before .before .before .before .before .before .before .before .before .before .args) .stream .now) 3 opening (((c .before .before .before .before .before .before .before .before .before .before .before .before .before .before .before .before .before .before .before .before .before .before .before .before .before .before .before .args) .c) .place)) (past _ f1 ((sym (then-assoc3 (read ((c .before .before .before .before .before .before .before .before .before .before .before .before .before .before .before .before .before .before .before .before .before .before .before .before .before .before .before .args) .stream .now) (ranks ((c .before .before .before .before .before .before .before .before .before .before .before .before .before .before .before .before .before .before .before .before .before .before .before .before .before .before .before .args) .ranking)) 0 (readers ((c .before .before .before .before .before .before .before .before .before .before .before .before .before .before .before .before .before .before .before .before .before .before .before .before .before .before .before .args) .stream .now) (ranks ((c .before .before .before .before .before .before .before .before .before .before .before .before .before .before .before .before .before .before .before .before .before .before .before .before .before .before .before .args) .ranking)) ((c .before .before .before .before .before .before .before .before .before .before .before .before .before .before .before .before .before .before .before .before .before .before .before .before .before .before .before .args) .g)) (hold 0 0 none) expr again (((c .before .before .before .before .before .before .before .before .before .before .before .before .before .before .before .before .before .before .before .before .before .before .d) .given .0 .1 .0) .place) (((c .before .before .before .before .before .before .before .before .before .before .before .before .before .before .before .before .before .before .before .before .before .before .d) .given .0 .1 .0) .mark)) (read ((c .before .before .before .before .before .before .before .before .before .before .before .before .before .before .before .before .before .before .before .before .before .before .before .before .before .before .before .args) .stream .now) (ranks ((c .before .before .before .before .before .before .before .before .before .before .before .before .before .before .before .before .before .before .before .before .before .before .before .before .before .before .before .args) .ranking)) 0 (readers ((c .before .before .before .before .before .before .before .before .before .before .before .before .before .before .before .before .before .before .before .before .before .before .before .before .before .before .before .args) .stream .now) (ranks ((c .before .before .before .before .before .before .before .before .before .before .before .before .before .before .before .before .before .before .before .before .before .before .before .before .before .before .before .args) .ranking)) ((c .before .before .before .before .before .before .before .before .before .before .before .before .before .before .before .before .before .before .before .before .before .before .before .before .before .before .before .args) .g)) (hold 0 0 none) (word 18) again) (read ((c .before .before .before .before .before .before .before .before .before .before .before .before .before .before .before .before .before .before .before .before .before .before .before .before .before .before .before .args) .stream .now) (ranks ((c .before .before .before .before .before .before .before .before .before .before .before .before .before .before .before .before .before .before .before .before .before .before .before .before .before .before .before .args) .ranking)) 0 (readers ((c .before .before .before .before .before .before .before .before .before .before .before .before .before .before .before .before .before .before .before .before .before .before .before .before .before .before .before .args) .stream .now) (ranks ((c .before .before .before .before .before .before .before .before .before .before .before .before .before .before .before .before .before .before .before .before .before .before .before .before .before .before .before .args) .ranking)) ((c .before .before .before .before .before .before .before .before .before .before .before .before .before .before .before .before .before .before .before .before .before .before .before .before .before .before .before .args) .g)) (hold 0 0 none) block′ again) (read ((c .before .before .before .before .before .before .before .before .before .before .before .before .before .before .before .before .before .before .before .before .before .before .before .before .before .before .before .args) .stream .now) (ranks ((c .before .before .before .before .before .before .before .before .before .before .before .before .before .before .before .before .before .before .before .before .before .before .before .before .before .before .before .args) .ranking)) 0 (readers ((c .before .before .before .before .before .before .before .before .before .before .before .before .before .before .before .before .before .before .before .before .before .before .before .before .before .before .before .args) .stream .now) (ranks ((c .before .before .before .before .before .before .before .before .before .before .before .before .before .before .before .before .before .before .before .before .before .before .before .before .before .before .before .args) .ranking)) ((c .before .before .before .before .before .before .before .before .before .before .before .before .before .before .before .before .before .before .before .before .before .before .before .before .before .before .before .args) .g)) (hold 0 0 none) (P.arms ⨾ (on check (2 ∷ []) (any ⨾ plus 1 ⨾ block′) empty) ⨾ word 4) again))) ∙ past (read ((c .before .before .before .before .before .before .before .before .before .before .before .before .before .before .before .before .before .before .before .before .before .before .before .before .before .before .before .args) .stream .now) (ranks ((c .before .before .before .before .before .before .before .before .before .before .before .before .before .before .before .before .before .before .before .before .before .before .before .before .before .before .before .args) .ranking)) 0 (readers ((c .before .before .before .before .before .before .before .before .before .before .before .before .before .before .before .before .before .before .before .before .before .before .before .before .before .before .before .args) .stream .now) (ranks ((c .before .before .before .before .before .before .before .before .before .before .before .before .before .before .before .before .before .before .before .before .before .before .before .before .before .before .before .args) .ranking)) ((c .before .before .before .before .before .before .before .before .before .before .before .before .before .before .before .before .before .before .before .before .before .before .before .before .before .before .before .args) .g)) (hold 0 0 none) (P.arms ⨾ (on check (2 ∷ []) (any ⨾ plus 1 ⨾ block′) empty) ⨾ word 4) again) fa (past _ (fs .0) (p3 ∙ stop _ (any-fail ((c .before .before .before .before .before .before .before .before .before .before .before .before .before .before .before .before .before .before .before .before .before .before .before .before .before .before .before .args) .stream .now) (ranks ((c .before .before .before .before .before .before .before .before .before .before .before .before .before .before .before .before .before .before .before .before .before .before .before .before .before .before .before .args) .ranking)) 0 (readers ((c .before .before .before .before .before .before .before .before .before .before .before .before .before .before .before .before .before .before .before .before .before .before .before .before .before .before .before .args) .stream .now) (ranks ((c .before .before .before .before .before .before .before .before .before .before .before .before .before .before .before .before .before .before .before .before .before .before .before .before .before .before .before .args) .ranking)) ((c .before .before .before .before .before .before .before .before .before .before .before .before .before .before .before .before .before .before .before .before .before .before .before .before .before .before .before .args) .g)) (hold 0 0 none) again (((c .before .before .before .before .before .before .check-ahead) .result) .cursor) ((sym ((c .before .before .before .take-next) .ensures)) ∙ (c .before .e6) .given .1))))))
+
+pub cond-same-length-6 : (t : ℕ) → cond-lts.Need-same-length-6 (
+  expect-next-reads.Asked,
+  expect-next-reads.Learnt,
+  arm-below t,
+  arm.Post,
+  arms-below t,
+  arms.Post,
+  check-ahead-reads.Asked,
+  check-ahead-reads.Learnt,
+  expect-reads.Asked,
+  expect-reads.Learnt,
+  close-reads.Asked,
+  close-reads.Learnt,
+  take-next-reads.Asked,
+  take-next-reads.Learnt,
+  ended-below t,
+  ended.Post,
+) (cond-at t) cond.Post
+cond-same-length-6 t c = (c .before .before .before .before .before .ended) .kept .1 .0 ∙ (c .before .before .before .before .before .before .before .before .before .before .before .before .before .before .before .before .before .before .before .arms) .kept .1 .0 ∙ (c .before .before .before .before .before .before .before .before .before .before .before .before .before .before .before .before .before .before .before .before .before .before .before .before .before .before .arm) .kept .1 .0
+
+pub cond-returns-7 : (t : ℕ) → cond-lts.Need-returns-7 (
+  expect-next-reads.Asked,
+  expect-next-reads.Learnt,
+  arm-below t,
+  arm.Post,
+  arms-below t,
+  arms.Post,
+  check-ahead-reads.Asked,
+  check-ahead-reads.Learnt,
+  expect-reads.Asked,
+  expect-reads.Learnt,
+  close-reads.Asked,
+  close-reads.Learnt,
+  take-next-reads.Asked,
+  take-next-reads.Learnt,
+  ended-below t,
+  ended.Post,
+) (cond-at t) cond.Post
+unfolding read ifstat
+cond-returns-7 t c =
+    let f1 = word-fine ((c .before .before .before .before .before .before .before .before .before .before .before .before .before .before .before .before .before .before .before .before .before .before .before .before .before .before .before .before .before .before .before .before .before .before .args) .stream .now) (ranks ((c .before .before .before .before .before .before .before .before .before .before .before .before .before .before .before .before .before .before .before .before .before .before .before .before .before .before .before .before .before .before .before .before .before .before .args) .ranking)) 0 (readers ((c .before .before .before .before .before .before .before .before .before .before .before .before .before .before .before .before .before .before .before .before .before .before .before .before .before .before .before .before .before .before .before .before .before .before .args) .stream .now) (ranks ((c .before .before .before .before .before .before .before .before .before .before .before .before .before .before .before .before .before .before .before .before .before .before .before .before .before .before .before .before .before .before .before .before .before .before .args) .ranking)) ((c .before .before .before .before .before .before .before .before .before .before .before .before .before .before .before .before .before .before .before .before .before .before .before .before .before .before .before .before .before .before .before .before .before .before .args) .g)) (hold 0 0 none) again ((c .before .before .before .before .before .before .before .before .before .before .before .before .before .before .before .before .before .before .before .before .before .before .before .before .before .before .before .before .before .before .before .before .before .before .args) .c) ((c .before .before .before .before .before .before .before .before .before .before .before .before .before .before .before .before .before .before .before .before .before .before .before .before .before .before .before .before .before .before .before .before .before .before .args) .nodes .now) (((c .before .before .before .before .before .before .before .before .before .before .before .before .before .before .before .before .before .before .before .before .before .before .before .before .before .before .before .before .before .before .before .before .before .before .args) .used) + 1) 0 (((c .before .before .before .before .before .before .before .before .before .before .before .before .before .before .before .before .before .before .before .before .before .before .before .before .before .before .before .before .before .before .before .before .before .before .pre) .1 .0) .formed) (omega (arith, ((c .before .before .before .before .before .before .before .before .before .before .before .before .before .before .before .before .before .before .before .before .before .before .before .before .before .before .before .before .before .before .before .before .before .before .pre) .1 .0) .room)) 9 refl refl ((sym ((c .before .before .before .before .before .before .before .before .before .before .before .before .before .before .before .before .before .before .before .before .before .before .before .before .before .before .before .before .before .before .before .expect-next) .ensures)) ∙ (c .before .before .before .before .before .before .before .before .before .before .before .before .before .before .before .before .before .before .before .before .before .before .before .before .before .before .before .before .before .d) .given .1) in
+    let fa = rw ((c .before .before .before .before .before .before .before .before .before .before .before .before .before .before .before .before .before .before .before .before .before .before .e3) .given .1) at ((c .before .before .before .before .before .before .before .before .before .before .before .before .before .before .before .before .before .before .before .before .before .before .before .before .before .before .arm) .ensures) in
+    let fs = rw ((c .before .before .before .before .before .before .before .before .before .before .before .before .before .before .before .f) .given .1) at ((c .before .before .before .before .before .before .before .before .before .before .before .before .before .before .before .before .before .before .before .arms) .ensures) in
+    let pl = check-place ((c .before .before .before .before .before .before .before .before .before .before .before .before .before .before .before .before .before .before .before .before .before .before .before .before .before .before .before .before .before .before .before .before .before .before .args) .stream .now) ((c .before .before .before .before .before .before .before .before .before .before .before .before .before .before .before .f) .given .0 .0) 0 2 ((c .before .before .before .before .before .before .before .before .before .before .before .before .before .check-ahead) .ensures) in
+    let p3 = ap (λ (z : Out). then z (read ((c .before .before .before .before .before .before .before .before .before .before .before .before .before .before .before .before .before .before .before .before .before .before .before .before .before .before .before .before .before .before .before .before .before .before .args) .stream .now) (ranks ((c .before .before .before .before .before .before .before .before .before .before .before .before .before .before .before .before .before .before .before .before .before .before .before .before .before .before .before .before .before .before .before .before .before .before .args) .ranking)) 0 (readers ((c .before .before .before .before .before .before .before .before .before .before .before .before .before .before .before .before .before .before .before .before .before .before .before .before .before .before .before .before .before .before .before .before .before .before .args) .stream .now) (ranks ((c .before .before .before .before .before .before .before .before .before .before .before .before .before .before .before .before .before .before .before .before .before .before .before .before .before .before .before .before .before .before .before .before .before .before .args) .ranking)) ((c .before .before .before .before .before .before .before .before .before .before .before .before .before .before .before .before .before .before .before .before .before .before .before .before .before .before .before .before .before .before .before .before .before .before .args) .g)) (hold 0 0 none) (word 4) again)) (checked-in ((c .before .before .before .before .before .before .before .before .before .before .before .before .before .before .before .before .before .before .before .before .before .before .before .before .before .before .before .before .before .before .before .before .before .before .args) .stream .now) (ranks ((c .before .before .before .before .before .before .before .before .before .before .before .before .before .before .before .before .before .before .before .before .before .before .before .before .before .before .before .before .before .before .before .before .before .before .args) .ranking)) 0 (readers ((c .before .before .before .before .before .before .before .before .before .before .before .before .before .before .before .before .before .before .before .before .before .before .before .before .before .before .before .before .before .before .before .before .before .before .args) .stream .now) (ranks ((c .before .before .before .before .before .before .before .before .before .before .before .before .before .before .before .before .before .before .before .before .before .before .before .before .before .before .before .before .before .before .before .before .before .before .args) .ranking)) ((c .before .before .before .before .before .before .before .before .before .before .before .before .before .before .before .before .before .before .before .before .before .before .before .before .before .before .before .before .before .before .before .before .before .before .args) .g)) (hold 0 0 none) again ((c .before .before .before .before .before .before .before .before .before .before .before .before .before .before .before .f) .given .0 .0) ((c .before .before .before .before .before .before .before .before .before .before .before .before .before .check-ahead) .result) 2 (any ⨾ plus 1 ⨾ block′) empty (λ z. omega arith) ((c .before .before .before .before .before .before .before .before .before .before .before .before .before .check-ahead) .ensures) (not-false (((c .before .before .before .before .before .before .before .before .before .before .before .before .before .check-ahead) .result) .found) ((c .before .before .before .before .before .before .before .before .before .before .before .if1) .left))) ∙ then-assoc3 (read ((c .before .before .before .before .before .before .before .before .before .before .before .before .before .before .before .before .before .before .before .before .before .before .before .before .before .before .before .before .before .before .before .before .before .before .args) .stream .now) (ranks ((c .before .before .before .before .before .before .before .before .before .before .before .before .before .before .before .before .before .before .before .before .before .before .before .before .before .before .before .before .before .before .before .before .before .before .args) .ranking)) 0 (readers ((c .before .before .before .before .before .before .before .before .before .before .before .before .before .before .before .before .before .before .before .before .before .before .before .before .before .before .before .before .before .before .before .before .before .before .args) .stream .now) (ranks ((c .before .before .before .before .before .before .before .before .before .before .before .before .before .before .before .before .before .before .before .before .before .before .before .before .before .before .before .before .before .before .before .before .before .before .args) .ranking)) ((c .before .before .before .before .before .before .before .before .before .before .before .before .before .before .before .before .before .before .before .before .before .before .before .before .before .before .before .before .before .before .before .before .before .before .args) .g)) (hold 0 0 none) any again (((c .before .before .before .before .before .before .before .before .before .before .before .before .before .check-ahead) .result) .cursor .place) (((c .before .before .before .before .before .before .before .before .before .before .before .before .before .check-ahead) .result) .cursor .mark)) (read ((c .before .before .before .before .before .before .before .before .before .before .before .before .before .before .before .before .before .before .before .before .before .before .before .before .before .before .before .before .before .before .before .before .before .before .args) .stream .now) (ranks ((c .before .before .before .before .before .before .before .before .before .before .before .before .before .before .before .before .before .before .before .before .before .before .before .before .before .before .before .before .before .before .before .before .before .before .args) .ranking)) 0 (readers ((c .before .before .before .before .before .before .before .before .before .before .before .before .before .before .before .before .before .before .before .before .before .before .before .before .before .before .before .before .before .before .before .before .before .before .args) .stream .now) (ranks ((c .before .before .before .before .before .before .before .before .before .before .before .before .before .before .before .before .before .before .before .before .before .before .before .before .before .before .before .before .before .before .before .before .before .before .args) .ranking)) ((c .before .before .before .before .before .before .before .before .before .before .before .before .before .before .before .before .before .before .before .before .before .before .before .before .before .before .before .before .before .before .before .before .before .before .args) .g)) (hold 0 0 none) (plus 1) again) (read ((c .before .before .before .before .before .before .before .before .before .before .before .before .before .before .before .before .before .before .before .before .before .before .before .before .before .before .before .before .before .before .before .before .before .before .args) .stream .now) (ranks ((c .before .before .before .before .before .before .before .before .before .before .before .before .before .before .before .before .before .before .before .before .before .before .before .before .before .before .before .before .before .before .before .before .before .before .args) .ranking)) 0 (readers ((c .before .before .before .before .before .before .before .before .before .before .before .before .before .before .before .before .before .before .before .before .before .before .before .before .before .before .before .before .before .before .before .before .before .before .args) .stream .now) (ranks ((c .before .before .before .before .before .before .before .before .before .before .before .before .before .before .before .before .before .before .before .before .before .before .before .before .before .before .before .before .before .before .before .before .before .before .args) .ranking)) ((c .before .before .before .before .before .before .before .before .before .before .before .before .before .before .before .before .before .before .before .before .before .before .before .before .before .before .before .before .before .before .before .before .before .before .args) .g)) (hold 0 0 none) block′ again) (read ((c .before .before .before .before .before .before .before .before .before .before .before .before .before .before .before .before .before .before .before .before .before .before .before .before .before .before .before .before .before .before .before .before .before .before .args) .stream .now) (ranks ((c .before .before .before .before .before .before .before .before .before .before .before .before .before .before .before .before .before .before .before .before .before .before .before .before .before .before .before .before .before .before .before .before .before .before .args) .ranking)) 0 (readers ((c .before .before .before .before .before .before .before .before .before .before .before .before .before .before .before .before .before .before .before .before .before .before .before .before .before .before .before .before .before .before .before .before .before .before .args) .stream .now) (ranks ((c .before .before .before .before .before .before .before .before .before .before .before .before .before .before .before .before .before .before .before .before .before .before .before .before .before .before .before .before .before .before .before .before .before .before .args) .ranking)) ((c .before .before .before .before .before .before .before .before .before .before .before .before .before .before .before .before .before .before .before .before .before .before .before .before .before .before .before .before .before .before .before .before .before .before .args) .g)) (hold 0 0 none) (word 4) again) in
+    let f4 = any-fine ((c .before .before .before .before .before .before .before .before .before .before .before .before .before .before .before .before .before .before .before .before .before .before .before .before .before .before .before .before .before .before .before .before .before .before .args) .stream .now) (ranks ((c .before .before .before .before .before .before .before .before .before .before .before .before .before .before .before .before .before .before .before .before .before .before .before .before .before .before .before .before .before .before .before .before .before .before .args) .ranking)) 0 (readers ((c .before .before .before .before .before .before .before .before .before .before .before .before .before .before .before .before .before .before .before .before .before .before .before .before .before .before .before .before .before .before .before .before .before .before .args) .stream .now) (ranks ((c .before .before .before .before .before .before .before .before .before .before .before .before .before .before .before .before .before .before .before .before .before .before .before .before .before .before .before .before .before .before .before .before .before .before .args) .ranking)) ((c .before .before .before .before .before .before .before .before .before .before .before .before .before .before .before .before .before .before .before .before .before .before .before .before .before .before .before .before .before .before .before .before .before .before .args) .g)) (hold 0 0 none) again (((c .before .before .before .before .before .before .before .before .before .before .before .before .before .check-ahead) .result) .cursor) ((c .before .before .before .before .before .before .before .before .before .before .before .before .before .before .before .before .before .before .before .arms) .last .1 .0) ((c .before .before .before .before .before .before .before .before .before .before .before .before .before .before .before .f) .given .0 .1 .0) 0 (((c .before .before .before .before .before .before .before .before .before .before .before .before .before .before .before .before .before .before .before .before .before .before .before .before .before .before .before .before .before .before .before .before .before .before .pre) .1 .0) .formed) (omega (arith, fs .0 .room, pl)) ((sym ((c .before .before .before .before .before .before .before .before .before .before .take-next) .ensures)) ∙ (c .before .before .before .before .before .before .before .before .i2) .given .1) in
+    let w4 = weighs {s = ((c .before .before .before .before .before .before .before .before .before .before .before .before .before .before .before .before .before .before .before .before .before .before .before .before .before .before .before .before .before .before .before .before .before .before .args) .stream .now)} ((c .before .before .before .before .before .before .before .before .before .before .before .before .before .before .before .before .before .before .before .arms) .last .1 .0) ((c .before .before .before .before .before .before .before .before .before .before .before .before .before .before .before .f) .given .0 .1 .0) 0 1 ((c .before .before .before .before .before .before .before .before .i2) .given .0 .1 .0) (f4 .at) (f4 .room) in
+    ap (wrap ((c .before .before .before .before .before .before .before .before .before .before .before .before .before .before .before .before .before .before .before .before .before .before .before .before .before .before .before .before .before .before .before .before .before .before .args) .stream .now) 3 opening (((c .before .before .before .before .before .before .before .before .before .before .before .before .before .before .before .before .before .before .before .before .before .before .before .before .before .before .before .before .before .before .before .before .before .before .args) .c) .place)) (past _ f1 ((sym (then-assoc3 (read ((c .before .before .before .before .before .before .before .before .before .before .before .before .before .before .before .before .before .before .before .before .before .before .before .before .before .before .before .before .before .before .before .before .before .before .args) .stream .now) (ranks ((c .before .before .before .before .before .before .before .before .before .before .before .before .before .before .before .before .before .before .before .before .before .before .before .before .before .before .before .before .before .before .before .before .before .before .args) .ranking)) 0 (readers ((c .before .before .before .before .before .before .before .before .before .before .before .before .before .before .before .before .before .before .before .before .before .before .before .before .before .before .before .before .before .before .before .before .before .before .args) .stream .now) (ranks ((c .before .before .before .before .before .before .before .before .before .before .before .before .before .before .before .before .before .before .before .before .before .before .before .before .before .before .before .before .before .before .before .before .before .before .args) .ranking)) ((c .before .before .before .before .before .before .before .before .before .before .before .before .before .before .before .before .before .before .before .before .before .before .before .before .before .before .before .before .before .before .before .before .before .before .args) .g)) (hold 0 0 none) expr again (((c .before .before .before .before .before .before .before .before .before .before .before .before .before .before .before .before .before .before .before .before .before .before .before .before .before .before .before .before .before .d) .given .0 .1 .0) .place) (((c .before .before .before .before .before .before .before .before .before .before .before .before .before .before .before .before .before .before .before .before .before .before .before .before .before .before .before .before .before .d) .given .0 .1 .0) .mark)) (read ((c .before .before .before .before .before .before .before .before .before .before .before .before .before .before .before .before .before .before .before .before .before .before .before .before .before .before .before .before .before .before .before .before .before .before .args) .stream .now) (ranks ((c .before .before .before .before .before .before .before .before .before .before .before .before .before .before .before .before .before .before .before .before .before .before .before .before .before .before .before .before .before .before .before .before .before .before .args) .ranking)) 0 (readers ((c .before .before .before .before .before .before .before .before .before .before .before .before .before .before .before .before .before .before .before .before .before .before .before .before .before .before .before .before .before .before .before .before .before .before .args) .stream .now) (ranks ((c .before .before .before .before .before .before .before .before .before .before .before .before .before .before .before .before .before .before .before .before .before .before .before .before .before .before .before .before .before .before .before .before .before .before .args) .ranking)) ((c .before .before .before .before .before .before .before .before .before .before .before .before .before .before .before .before .before .before .before .before .before .before .before .before .before .before .before .before .before .before .before .before .before .before .args) .g)) (hold 0 0 none) (word 18) again) (read ((c .before .before .before .before .before .before .before .before .before .before .before .before .before .before .before .before .before .before .before .before .before .before .before .before .before .before .before .before .before .before .before .before .before .before .args) .stream .now) (ranks ((c .before .before .before .before .before .before .before .before .before .before .before .before .before .before .before .before .before .before .before .before .before .before .before .before .before .before .before .before .before .before .before .before .before .before .args) .ranking)) 0 (readers ((c .before .before .before .before .before .before .before .before .before .before .before .before .before .before .before .before .before .before .before .before .before .before .before .before .before .before .before .before .before .before .before .before .before .before .args) .stream .now) (ranks ((c .before .before .before .before .before .before .before .before .before .before .before .before .before .before .before .before .before .before .before .before .before .before .before .before .before .before .before .before .before .before .before .before .before .before .args) .ranking)) ((c .before .before .before .before .before .before .before .before .before .before .before .before .before .before .before .before .before .before .before .before .before .before .before .before .before .before .before .before .before .before .before .before .before .before .args) .g)) (hold 0 0 none) block′ again) (read ((c .before .before .before .before .before .before .before .before .before .before .before .before .before .before .before .before .before .before .before .before .before .before .before .before .before .before .before .before .before .before .before .before .before .before .args) .stream .now) (ranks ((c .before .before .before .before .before .before .before .before .before .before .before .before .before .before .before .before .before .before .before .before .before .before .before .before .before .before .before .before .before .before .before .before .before .before .args) .ranking)) 0 (readers ((c .before .before .before .before .before .before .before .before .before .before .before .before .before .before .before .before .before .before .before .before .before .before .before .before .before .before .before .before .before .before .before .before .before .before .args) .stream .now) (ranks ((c .before .before .before .before .before .before .before .before .before .before .before .before .before .before .before .before .before .before .before .before .before .before .before .before .before .before .before .before .before .before .before .before .before .before .args) .ranking)) ((c .before .before .before .before .before .before .before .before .before .before .before .before .before .before .before .before .before .before .before .before .before .before .before .before .before .before .before .before .before .before .before .before .before .before .args) .g)) (hold 0 0 none) (P.arms ⨾ (on check (2 ∷ []) (any ⨾ plus 1 ⨾ block′) empty) ⨾ word 4) again))) ∙ past (read ((c .before .before .before .before .before .before .before .before .before .before .before .before .before .before .before .before .before .before .before .before .before .before .before .before .before .before .before .before .before .before .before .before .before .before .args) .stream .now) (ranks ((c .before .before .before .before .before .before .before .before .before .before .before .before .before .before .before .before .before .before .before .before .before .before .before .before .before .before .before .before .before .before .before .before .before .before .args) .ranking)) 0 (readers ((c .before .before .before .before .before .before .before .before .before .before .before .before .before .before .before .before .before .before .before .before .before .before .before .before .before .before .before .before .before .before .before .before .before .before .args) .stream .now) (ranks ((c .before .before .before .before .before .before .before .before .before .before .before .before .before .before .before .before .before .before .before .before .before .before .before .before .before .before .before .before .before .before .before .before .before .before .args) .ranking)) ((c .before .before .before .before .before .before .before .before .before .before .before .before .before .before .before .before .before .before .before .before .before .before .before .before .before .before .before .before .before .before .before .before .before .before .args) .g)) (hold 0 0 none) (P.arms ⨾ (on check (2 ∷ []) (any ⨾ plus 1 ⨾ block′) empty) ⨾ word 4) again) fa (past _ (fs .0) (p3 ∙ past _ f4 (past (read ((c .before .before .before .before .before .before .before .before .before .before .before .before .before .before .before .before .before .before .before .before .before .before .before .before .before .before .before .before .before .before .before .before .before .before .args) .stream .now) (ranks ((c .before .before .before .before .before .before .before .before .before .before .before .before .before .before .before .before .before .before .before .before .before .before .before .before .before .before .before .before .before .before .before .before .before .before .args) .ranking)) 0 (readers ((c .before .before .before .before .before .before .before .before .before .before .before .before .before .before .before .before .before .before .before .before .before .before .before .before .before .before .before .before .before .before .before .before .before .before .args) .stream .now) (ranks ((c .before .before .before .before .before .before .before .before .before .before .before .before .before .before .before .before .before .before .before .before .before .before .before .before .before .before .before .before .before .before .before .before .before .before .args) .ranking)) ((c .before .before .before .before .before .before .before .before .before .before .before .before .before .before .before .before .before .before .before .before .before .before .before .before .before .before .before .before .before .before .before .before .before .before .args) .g)) (hold 0 0 none) P.ended again) w4 (rw ((c .before .e7) .given .1) at ((c .before .before .before .before .before .ended) .ensures)))))))
+
+pub cond-same-length-7 : (t : ℕ) → cond-lts.Need-same-length-7 (
+  expect-next-reads.Asked,
+  expect-next-reads.Learnt,
+  arm-below t,
+  arm.Post,
+  arms-below t,
+  arms.Post,
+  check-ahead-reads.Asked,
+  check-ahead-reads.Learnt,
+  expect-reads.Asked,
+  expect-reads.Learnt,
+  close-reads.Asked,
+  close-reads.Learnt,
+  take-next-reads.Asked,
+  take-next-reads.Learnt,
+  ended-below t,
+  ended.Post,
+) (cond-at t) cond.Post
+cond-same-length-7 t c = (c .before .before .close2) .kept .0 ∙ (c .before .before .before .before .before .before .before .before .before .ended) .kept .1 .0 ∙ (c .before .before .before .before .before .before .before .before .before .before .before .before .before .before .before .before .before .before .before .before .before .before .before .arms) .kept .1 .0 ∙ (c .before .before .before .before .before .before .before .before .before .before .before .before .before .before .before .before .before .before .before .before .before .before .before .before .before .before .before .before .before .before .arm) .kept .1 .0
+
+pub cond-returns-8 : (t : ℕ) → cond-lts.Need-returns-8 (
+  expect-next-reads.Asked,
+  expect-next-reads.Learnt,
+  arm-below t,
+  arm.Post,
+  arms-below t,
+  arms.Post,
+  check-ahead-reads.Asked,
+  check-ahead-reads.Learnt,
+  expect-reads.Asked,
+  expect-reads.Learnt,
+  close-reads.Asked,
+  close-reads.Learnt,
+  take-next-reads.Asked,
+  take-next-reads.Learnt,
+  ended-below t,
+  ended.Post,
+) (cond-at t) cond.Post
+unfolding read ifstat
+cond-returns-8 t c =
+    let f1 = word-fine ((c .before .before .before .before .before .before .before .before .before .before .before .before .before .before .before .before .before .before .before .before .before .before .before .before .before .before .before .before .before .before .before .before .before .before .before .before .before .before .args) .stream .now) (ranks ((c .before .before .before .before .before .before .before .before .before .before .before .before .before .before .before .before .before .before .before .before .before .before .before .before .before .before .before .before .before .before .before .before .before .before .before .before .before .before .args) .ranking)) 0 (readers ((c .before .before .before .before .before .before .before .before .before .before .before .before .before .before .before .before .before .before .before .before .before .before .before .before .before .before .before .before .before .before .before .before .before .before .before .before .before .before .args) .stream .now) (ranks ((c .before .before .before .before .before .before .before .before .before .before .before .before .before .before .before .before .before .before .before .before .before .before .before .before .before .before .before .before .before .before .before .before .before .before .before .before .before .before .args) .ranking)) ((c .before .before .before .before .before .before .before .before .before .before .before .before .before .before .before .before .before .before .before .before .before .before .before .before .before .before .before .before .before .before .before .before .before .before .before .before .before .before .args) .g)) (hold 0 0 none) again ((c .before .before .before .before .before .before .before .before .before .before .before .before .before .before .before .before .before .before .before .before .before .before .before .before .before .before .before .before .before .before .before .before .before .before .before .before .before .before .args) .c) ((c .before .before .before .before .before .before .before .before .before .before .before .before .before .before .before .before .before .before .before .before .before .before .before .before .before .before .before .before .before .before .before .before .before .before .before .before .before .before .args) .nodes .now) (((c .before .before .before .before .before .before .before .before .before .before .before .before .before .before .before .before .before .before .before .before .before .before .before .before .before .before .before .before .before .before .before .before .before .before .before .before .before .before .args) .used) + 1) 0 (((c .before .before .before .before .before .before .before .before .before .before .before .before .before .before .before .before .before .before .before .before .before .before .before .before .before .before .before .before .before .before .before .before .before .before .before .before .before .before .pre) .1 .0) .formed) (omega (arith, ((c .before .before .before .before .before .before .before .before .before .before .before .before .before .before .before .before .before .before .before .before .before .before .before .before .before .before .before .before .before .before .before .before .before .before .before .before .before .before .pre) .1 .0) .room)) 9 refl refl ((sym ((c .before .before .before .before .before .before .before .before .before .before .before .before .before .before .before .before .before .before .before .before .before .before .before .before .before .before .before .before .before .before .before .before .before .before .before .expect-next) .ensures)) ∙ (c .before .before .before .before .before .before .before .before .before .before .before .before .before .before .before .before .before .before .before .before .before .before .before .before .before .before .before .before .before .before .before .before .before .d) .given .1) in
+    let fa = rw ((c .before .before .before .before .before .before .before .before .before .before .before .before .before .before .before .before .before .before .before .before .before .before .before .before .before .before .e3) .given .1) at ((c .before .before .before .before .before .before .before .before .before .before .before .before .before .before .before .before .before .before .before .before .before .before .before .before .before .before .before .before .before .before .arm) .ensures) in
+    let fs = rw ((c .before .before .before .before .before .before .before .before .before .before .before .before .before .before .before .before .before .before .before .f) .given .1) at ((c .before .before .before .before .before .before .before .before .before .before .before .before .before .before .before .before .before .before .before .before .before .before .before .arms) .ensures) in
+    let pl = check-place ((c .before .before .before .before .before .before .before .before .before .before .before .before .before .before .before .before .before .before .before .before .before .before .before .before .before .before .before .before .before .before .before .before .before .before .before .before .before .before .args) .stream .now) ((c .before .before .before .before .before .before .before .before .before .before .before .before .before .before .before .before .before .before .before .f) .given .0 .0) 0 2 ((c .before .before .before .before .before .before .before .before .before .before .before .before .before .before .before .before .before .check-ahead) .ensures) in
+    let p3 = ap (λ (z : Out). then z (read ((c .before .before .before .before .before .before .before .before .before .before .before .before .before .before .before .before .before .before .before .before .before .before .before .before .before .before .before .before .before .before .before .before .before .before .before .before .before .before .args) .stream .now) (ranks ((c .before .before .before .before .before .before .before .before .before .before .before .before .before .before .before .before .before .before .before .before .before .before .before .before .before .before .before .before .before .before .before .before .before .before .before .before .before .before .args) .ranking)) 0 (readers ((c .before .before .before .before .before .before .before .before .before .before .before .before .before .before .before .before .before .before .before .before .before .before .before .before .before .before .before .before .before .before .before .before .before .before .before .before .before .before .args) .stream .now) (ranks ((c .before .before .before .before .before .before .before .before .before .before .before .before .before .before .before .before .before .before .before .before .before .before .before .before .before .before .before .before .before .before .before .before .before .before .before .before .before .before .args) .ranking)) ((c .before .before .before .before .before .before .before .before .before .before .before .before .before .before .before .before .before .before .before .before .before .before .before .before .before .before .before .before .before .before .before .before .before .before .before .before .before .before .args) .g)) (hold 0 0 none) (word 4) again)) (checked-in ((c .before .before .before .before .before .before .before .before .before .before .before .before .before .before .before .before .before .before .before .before .before .before .before .before .before .before .before .before .before .before .before .before .before .before .before .before .before .before .args) .stream .now) (ranks ((c .before .before .before .before .before .before .before .before .before .before .before .before .before .before .before .before .before .before .before .before .before .before .before .before .before .before .before .before .before .before .before .before .before .before .before .before .before .before .args) .ranking)) 0 (readers ((c .before .before .before .before .before .before .before .before .before .before .before .before .before .before .before .before .before .before .before .before .before .before .before .before .before .before .before .before .before .before .before .before .before .before .before .before .before .before .args) .stream .now) (ranks ((c .before .before .before .before .before .before .before .before .before .before .before .before .before .before .before .before .before .before .before .before .before .before .before .before .before .before .before .before .before .before .before .before .before .before .before .before .before .before .args) .ranking)) ((c .before .before .before .before .before .before .before .before .before .before .before .before .before .before .before .before .before .before .before .before .before .before .before .before .before .before .before .before .before .before .before .before .before .before .before .before .before .before .args) .g)) (hold 0 0 none) again ((c .before .before .before .before .before .before .before .before .before .before .before .before .before .before .before .before .before .before .before .f) .given .0 .0) ((c .before .before .before .before .before .before .before .before .before .before .before .before .before .before .before .before .before .check-ahead) .result) 2 (any ⨾ plus 1 ⨾ block′) empty (λ z. omega arith) ((c .before .before .before .before .before .before .before .before .before .before .before .before .before .before .before .before .before .check-ahead) .ensures) (not-false (((c .before .before .before .before .before .before .before .before .before .before .before .before .before .before .before .before .before .check-ahead) .result) .found) ((c .before .before .before .before .before .before .before .before .before .before .before .before .before .before .before .if1) .left))) ∙ then-assoc3 (read ((c .before .before .before .before .before .before .before .before .before .before .before .before .before .before .before .before .before .before .before .before .before .before .before .before .before .before .before .before .before .before .before .before .before .before .before .before .before .before .args) .stream .now) (ranks ((c .before .before .before .before .before .before .before .before .before .before .before .before .before .before .before .before .before .before .before .before .before .before .before .before .before .before .before .before .before .before .before .before .before .before .before .before .before .before .args) .ranking)) 0 (readers ((c .before .before .before .before .before .before .before .before .before .before .before .before .before .before .before .before .before .before .before .before .before .before .before .before .before .before .before .before .before .before .before .before .before .before .before .before .before .before .args) .stream .now) (ranks ((c .before .before .before .before .before .before .before .before .before .before .before .before .before .before .before .before .before .before .before .before .before .before .before .before .before .before .before .before .before .before .before .before .before .before .before .before .before .before .args) .ranking)) ((c .before .before .before .before .before .before .before .before .before .before .before .before .before .before .before .before .before .before .before .before .before .before .before .before .before .before .before .before .before .before .before .before .before .before .before .before .before .before .args) .g)) (hold 0 0 none) any again (((c .before .before .before .before .before .before .before .before .before .before .before .before .before .before .before .before .before .check-ahead) .result) .cursor .place) (((c .before .before .before .before .before .before .before .before .before .before .before .before .before .before .before .before .before .check-ahead) .result) .cursor .mark)) (read ((c .before .before .before .before .before .before .before .before .before .before .before .before .before .before .before .before .before .before .before .before .before .before .before .before .before .before .before .before .before .before .before .before .before .before .before .before .before .before .args) .stream .now) (ranks ((c .before .before .before .before .before .before .before .before .before .before .before .before .before .before .before .before .before .before .before .before .before .before .before .before .before .before .before .before .before .before .before .before .before .before .before .before .before .before .args) .ranking)) 0 (readers ((c .before .before .before .before .before .before .before .before .before .before .before .before .before .before .before .before .before .before .before .before .before .before .before .before .before .before .before .before .before .before .before .before .before .before .before .before .before .before .args) .stream .now) (ranks ((c .before .before .before .before .before .before .before .before .before .before .before .before .before .before .before .before .before .before .before .before .before .before .before .before .before .before .before .before .before .before .before .before .before .before .before .before .before .before .args) .ranking)) ((c .before .before .before .before .before .before .before .before .before .before .before .before .before .before .before .before .before .before .before .before .before .before .before .before .before .before .before .before .before .before .before .before .before .before .before .before .before .before .args) .g)) (hold 0 0 none) (plus 1) again) (read ((c .before .before .before .before .before .before .before .before .before .before .before .before .before .before .before .before .before .before .before .before .before .before .before .before .before .before .before .before .before .before .before .before .before .before .before .before .before .before .args) .stream .now) (ranks ((c .before .before .before .before .before .before .before .before .before .before .before .before .before .before .before .before .before .before .before .before .before .before .before .before .before .before .before .before .before .before .before .before .before .before .before .before .before .before .args) .ranking)) 0 (readers ((c .before .before .before .before .before .before .before .before .before .before .before .before .before .before .before .before .before .before .before .before .before .before .before .before .before .before .before .before .before .before .before .before .before .before .before .before .before .before .args) .stream .now) (ranks ((c .before .before .before .before .before .before .before .before .before .before .before .before .before .before .before .before .before .before .before .before .before .before .before .before .before .before .before .before .before .before .before .before .before .before .before .before .before .before .args) .ranking)) ((c .before .before .before .before .before .before .before .before .before .before .before .before .before .before .before .before .before .before .before .before .before .before .before .before .before .before .before .before .before .before .before .before .before .before .before .before .before .before .args) .g)) (hold 0 0 none) block′ again) (read ((c .before .before .before .before .before .before .before .before .before .before .before .before .before .before .before .before .before .before .before .before .before .before .before .before .before .before .before .before .before .before .before .before .before .before .before .before .before .before .args) .stream .now) (ranks ((c .before .before .before .before .before .before .before .before .before .before .before .before .before .before .before .before .before .before .before .before .before .before .before .before .before .before .before .before .before .before .before .before .before .before .before .before .before .before .args) .ranking)) 0 (readers ((c .before .before .before .before .before .before .before .before .before .before .before .before .before .before .before .before .before .before .before .before .before .before .before .before .before .before .before .before .before .before .before .before .before .before .before .before .before .before .args) .stream .now) (ranks ((c .before .before .before .before .before .before .before .before .before .before .before .before .before .before .before .before .before .before .before .before .before .before .before .before .before .before .before .before .before .before .before .before .before .before .before .before .before .before .args) .ranking)) ((c .before .before .before .before .before .before .before .before .before .before .before .before .before .before .before .before .before .before .before .before .before .before .before .before .before .before .before .before .before .before .before .before .before .before .before .before .before .before .args) .g)) (hold 0 0 none) (word 4) again) in
+    let f4 = any-fine ((c .before .before .before .before .before .before .before .before .before .before .before .before .before .before .before .before .before .before .before .before .before .before .before .before .before .before .before .before .before .before .before .before .before .before .before .before .before .before .args) .stream .now) (ranks ((c .before .before .before .before .before .before .before .before .before .before .before .before .before .before .before .before .before .before .before .before .before .before .before .before .before .before .before .before .before .before .before .before .before .before .before .before .before .before .args) .ranking)) 0 (readers ((c .before .before .before .before .before .before .before .before .before .before .before .before .before .before .before .before .before .before .before .before .before .before .before .before .before .before .before .before .before .before .before .before .before .before .before .before .before .before .args) .stream .now) (ranks ((c .before .before .before .before .before .before .before .before .before .before .before .before .before .before .before .before .before .before .before .before .before .before .before .before .before .before .before .before .before .before .before .before .before .before .before .before .before .before .args) .ranking)) ((c .before .before .before .before .before .before .before .before .before .before .before .before .before .before .before .before .before .before .before .before .before .before .before .before .before .before .before .before .before .before .before .before .before .before .before .before .before .before .args) .g)) (hold 0 0 none) again (((c .before .before .before .before .before .before .before .before .before .before .before .before .before .before .before .before .before .check-ahead) .result) .cursor) ((c .before .before .before .before .before .before .before .before .before .before .before .before .before .before .before .before .before .before .before .before .before .before .before .arms) .last .1 .0) ((c .before .before .before .before .before .before .before .before .before .before .before .before .before .before .before .before .before .before .before .f) .given .0 .1 .0) 0 (((c .before .before .before .before .before .before .before .before .before .before .before .before .before .before .before .before .before .before .before .before .before .before .before .before .before .before .before .before .before .before .before .before .before .before .before .before .before .before .pre) .1 .0) .formed) (omega (arith, fs .0 .room, pl)) ((sym ((c .before .before .before .before .before .before .before .before .before .before .before .before .before .before .take-next) .ensures)) ∙ (c .before .before .before .before .before .before .before .before .before .before .before .before .i2) .given .1) in
+    let w4 = weighs {s = ((c .before .before .before .before .before .before .before .before .before .before .before .before .before .before .before .before .before .before .before .before .before .before .before .before .before .before .before .before .before .before .before .before .before .before .before .before .before .before .args) .stream .now)} ((c .before .before .before .before .before .before .before .before .before .before .before .before .before .before .before .before .before .before .before .before .before .before .before .arms) .last .1 .0) ((c .before .before .before .before .before .before .before .before .before .before .before .before .before .before .before .before .before .before .before .f) .given .0 .1 .0) 0 1 ((c .before .before .before .before .before .before .before .before .before .before .before .before .i2) .given .0 .1 .0) (f4 .at) (f4 .room) in
+    let fe = rw ((c .before .before .before .before .before .j) .given .1) at ((c .before .before .before .before .before .before .before .before .before .ended) .ensures) in
+    let b4 = both _ f4 (both (read ((c .before .before .before .before .before .before .before .before .before .before .before .before .before .before .before .before .before .before .before .before .before .before .before .before .before .before .before .before .before .before .before .before .before .before .before .before .before .before .args) .stream .now) (ranks ((c .before .before .before .before .before .before .before .before .before .before .before .before .before .before .before .before .before .before .before .before .before .before .before .before .before .before .before .before .before .before .before .before .before .before .before .before .before .before .args) .ranking)) 0 (readers ((c .before .before .before .before .before .before .before .before .before .before .before .before .before .before .before .before .before .before .before .before .before .before .before .before .before .before .before .before .before .before .before .before .before .before .before .before .before .before .args) .stream .now) (ranks ((c .before .before .before .before .before .before .before .before .before .before .before .before .before .before .before .before .before .before .before .before .before .before .before .before .before .before .before .before .before .before .before .before .before .before .before .before .before .before .args) .ranking)) ((c .before .before .before .before .before .before .before .before .before .before .before .before .before .before .before .before .before .before .before .before .before .before .before .before .before .before .before .before .before .before .before .before .before .before .before .before .before .before .args) .g)) (hold 0 0 none) P.ended again) w4 fe (omega arith)) (omega arith) in
+    let b = both (read ((c .before .before .before .before .before .before .before .before .before .before .before .before .before .before .before .before .before .before .before .before .before .before .before .before .before .before .before .before .before .before .before .before .before .before .before .before .before .before .args) .stream .now) (ranks ((c .before .before .before .before .before .before .before .before .before .before .before .before .before .before .before .before .before .before .before .before .before .before .before .before .before .before .before .before .before .before .before .before .before .before .before .before .before .before .args) .ranking)) 0 (readers ((c .before .before .before .before .before .before .before .before .before .before .before .before .before .before .before .before .before .before .before .before .before .before .before .before .before .before .before .before .before .before .before .before .before .before .before .before .before .before .args) .stream .now) (ranks ((c .before .before .before .before .before .before .before .before .before .before .before .before .before .before .before .before .before .before .before .before .before .before .before .before .before .before .before .before .before .before .before .before .before .before .before .before .before .before .args) .ranking)) ((c .before .before .before .before .before .before .before .before .before .before .before .before .before .before .before .before .before .before .before .before .before .before .before .before .before .before .before .before .before .before .before .before .before .before .before .before .before .before .args) .g)) (hold 0 0 none) (P.arms ⨾ (on check (2 ∷ []) (any ⨾ plus 1 ⨾ block′) empty) ⨾ word 4) again) fa (both _ (fs .0) (alter p3 b4) (omega (arith, pl))) (omega (arith, fs .0 .later)) in
+    let w = revalue {w = (c .before .before .before .before .before .before .before .before .before .before .before .before .before .before .before .before .before .before .before .f) .given .0 .1 .1 .0 + 1} (omega arith) (both _ f1 (alter (sym (then-assoc3 (read ((c .before .before .before .before .before .before .before .before .before .before .before .before .before .before .before .before .before .before .before .before .before .before .before .before .before .before .before .before .before .before .before .before .before .before .before .before .before .before .args) .stream .now) (ranks ((c .before .before .before .before .before .before .before .before .before .before .before .before .before .before .before .before .before .before .before .before .before .before .before .before .before .before .before .before .before .before .before .before .before .before .before .before .before .before .args) .ranking)) 0 (readers ((c .before .before .before .before .before .before .before .before .before .before .before .before .before .before .before .before .before .before .before .before .before .before .before .before .before .before .before .before .before .before .before .before .before .before .before .before .before .before .args) .stream .now) (ranks ((c .before .before .before .before .before .before .before .before .before .before .before .before .before .before .before .before .before .before .before .before .before .before .before .before .before .before .before .before .before .before .before .before .before .before .before .before .before .before .args) .ranking)) ((c .before .before .before .before .before .before .before .before .before .before .before .before .before .before .before .before .before .before .before .before .before .before .before .before .before .before .before .before .before .before .before .before .before .before .before .before .before .before .args) .g)) (hold 0 0 none) expr again (((c .before .before .before .before .before .before .before .before .before .before .before .before .before .before .before .before .before .before .before .before .before .before .before .before .before .before .before .before .before .before .before .before .before .d) .given .0 .1 .0) .place) (((c .before .before .before .before .before .before .before .before .before .before .before .before .before .before .before .before .before .before .before .before .before .before .before .before .before .before .before .before .before .before .before .before .before .d) .given .0 .1 .0) .mark)) (read ((c .before .before .before .before .before .before .before .before .before .before .before .before .before .before .before .before .before .before .before .before .before .before .before .before .before .before .before .before .before .before .before .before .before .before .before .before .before .before .args) .stream .now) (ranks ((c .before .before .before .before .before .before .before .before .before .before .before .before .before .before .before .before .before .before .before .before .before .before .before .before .before .before .before .before .before .before .before .before .before .before .before .before .before .before .args) .ranking)) 0 (readers ((c .before .before .before .before .before .before .before .before .before .before .before .before .before .before .before .before .before .before .before .before .before .before .before .before .before .before .before .before .before .before .before .before .before .before .before .before .before .before .args) .stream .now) (ranks ((c .before .before .before .before .before .before .before .before .before .before .before .before .before .before .before .before .before .before .before .before .before .before .before .before .before .before .before .before .before .before .before .before .before .before .before .before .before .before .args) .ranking)) ((c .before .before .before .before .before .before .before .before .before .before .before .before .before .before .before .before .before .before .before .before .before .before .before .before .before .before .before .before .before .before .before .before .before .before .before .before .before .before .args) .g)) (hold 0 0 none) (word 18) again) (read ((c .before .before .before .before .before .before .before .before .before .before .before .before .before .before .before .before .before .before .before .before .before .before .before .before .before .before .before .before .before .before .before .before .before .before .before .before .before .before .args) .stream .now) (ranks ((c .before .before .before .before .before .before .before .before .before .before .before .before .before .before .before .before .before .before .before .before .before .before .before .before .before .before .before .before .before .before .before .before .before .before .before .before .before .before .args) .ranking)) 0 (readers ((c .before .before .before .before .before .before .before .before .before .before .before .before .before .before .before .before .before .before .before .before .before .before .before .before .before .before .before .before .before .before .before .before .before .before .before .before .before .before .args) .stream .now) (ranks ((c .before .before .before .before .before .before .before .before .before .before .before .before .before .before .before .before .before .before .before .before .before .before .before .before .before .before .before .before .before .before .before .before .before .before .before .before .before .before .args) .ranking)) ((c .before .before .before .before .before .before .before .before .before .before .before .before .before .before .before .before .before .before .before .before .before .before .before .before .before .before .before .before .before .before .before .before .before .before .before .before .before .before .args) .g)) (hold 0 0 none) block′ again) (read ((c .before .before .before .before .before .before .before .before .before .before .before .before .before .before .before .before .before .before .before .before .before .before .before .before .before .before .before .before .before .before .before .before .before .before .before .before .before .before .args) .stream .now) (ranks ((c .before .before .before .before .before .before .before .before .before .before .before .before .before .before .before .before .before .before .before .before .before .before .before .before .before .before .before .before .before .before .before .before .before .before .before .before .before .before .args) .ranking)) 0 (readers ((c .before .before .before .before .before .before .before .before .before .before .before .before .before .before .before .before .before .before .before .before .before .before .before .before .before .before .before .before .before .before .before .before .before .before .before .before .before .before .args) .stream .now) (ranks ((c .before .before .before .before .before .before .before .before .before .before .before .before .before .before .before .before .before .before .before .before .before .before .before .before .before .before .before .before .before .before .before .before .before .before .before .before .before .before .args) .ranking)) ((c .before .before .before .before .before .before .before .before .before .before .before .before .before .before .before .before .before .before .before .before .before .before .before .before .before .before .before .before .before .before .before .before .before .before .before .before .before .before .args) .g)) (hold 0 0 none) (P.arms ⨾ (on check (2 ∷ []) (any ⨾ plus 1 ⨾ block′) empty) ⨾ word 4) again))) b) (omega arith)) in
+    rw ((c .before .before .close2) .ensures .0) (over 3 opening (((c .before .before .before .before .before .before .before .before .before .before .before .before .before .before .before .before .before .before .before .before .before .before .before .before .before .before .before .before .before .before .before .before .before .before .before .before .before .before .args) .c) .place) ((c .before .before .before .before .before .before .before .before .before .before .before .before .before .before .before .before .before .before .before .before .before .before .before .before .before .before .before .before .before .before .before .before .before .before .before .before .before .before .args) .line) w ((c .before .before .close2) .ensures .1) ((c .before .before .before .before .before .before .before .before .before .before .before .before .before .before .before .before .before .before .before .before .before .before .before .before .before .before .before .before .before .before .before .before .before .before .before .before .before .before .pre) .1 .1))

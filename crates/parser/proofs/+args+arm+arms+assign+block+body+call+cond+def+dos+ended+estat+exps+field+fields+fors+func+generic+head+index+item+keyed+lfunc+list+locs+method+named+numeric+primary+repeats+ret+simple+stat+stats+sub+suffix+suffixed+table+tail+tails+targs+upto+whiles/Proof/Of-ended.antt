@@ -1,0 +1,88 @@
+use borrow.Author.Needs.{needs}
+use Prim.Native.Nat.{ℕ}
+use Rattle.parser.proofs.args.Reads as args
+use Rattle.parser.proofs.block.Reads as block
+use Rattle.parser.proofs.ended.Reads as ended
+use Rattle.parser.proofs.+args+arm+arms+assign+block+body+call+cond+def+dos+ended+estat+exps+field+fields+fors+func+generic+head+index+item+keyed+lfunc+list+locs+method+named+numeric+primary+repeats+ret+simple+stat+stats+sub+suffix+suffixed+table+tail+tails+targs+upto+whiles.Lts-ended as ended-lts
+use Rattle.parser.proofs.expect.Reads as expect-reads
+use Rattle.parser.proofs.+args+arm+arms+assign+block+body+call+cond+def+dos+ended+estat+exps+field+fields+fors+func+generic+head+index+item+keyed+lfunc+list+locs+method+named+numeric+primary+repeats+ret+simple+stat+stats+sub+suffix+suffixed+table+tail+tails+targs+upto+whiles.{}
+use Rattle.parser.proofs.+args+arm+arms+assign+block+body+call+cond+def+dos+ended+estat+exps+field+fields+fors+func+generic+head+index+item+keyed+lfunc+list+locs+method+named+numeric+primary+repeats+ret+simple+stat+stats+sub+suffix+suffixed+table+tail+tails+targs+upto+whiles.Proof.Levels.{block-below, ended-at}
+use mathlib.Core.Path.{refl}
+use Prim.Native.Nat.{ℕ, _+_, _-_}
+use native.Mathlib.Omega.{arith}
+use Rattle.operators.specs.Ranks.{ranks}
+use Rattle.tree.specs.Forest.{none}
+use Rattle.grammar.specs.Reading.{read, hold}
+use Rattle.grammar.specs.Levels.{readers}
+use Rattle.parser.specs.Contract.{again}
+use Rattle.parser.proofs.Kit.{kept, stop}
+use Rattle.parser.proofs.Looks.{expect-meets}
+use Rattle.parser.proofs.Grouped.{onward-later}
+
+pub ended-block-requires : (t : ℕ) → ended-lts.Need-block-requires (
+  block-below t,
+  block.Post,
+  expect-reads.Asked,
+  expect-reads.Learnt,
+) (ended-at t) ended.Post
+ended-block-requires t c κs = (omega (arith, (c .before .before .before .pre) .0), ((c .before .before .before .pre) .1))
+
+pub ended-enum-known-e : (t : ℕ) → ended-lts.Need-enum-known-e (
+  block-below t,
+  block.Post,
+  expect-reads.Asked,
+  expect-reads.Learnt,
+) (ended-at t) ended.Post
+ended-enum-known-e t c = search needs
+
+pub ended-enum-known-d : (t : ℕ) → ended-lts.Need-enum-known-d (
+  block-below t,
+  block.Post,
+  expect-reads.Asked,
+  expect-reads.Learnt,
+) (ended-at t) ended.Post
+ended-enum-known-d t c = search needs
+
+pub ended-expect-requires : (t : ℕ) → ended-lts.Need-expect-requires (
+  block-below t,
+  block.Post,
+  expect-reads.Asked,
+  expect-reads.Learnt,
+) (ended-at t) ended.Post
+ended-expect-requires t c κs = search needs
+
+pub ended-same-length : (t : ℕ) → ended-lts.Need-same-length (
+  block-below t,
+  block.Post,
+  expect-reads.Asked,
+  expect-reads.Learnt,
+) (ended-at t) ended.Post
+ended-same-length t c = (c .before .before .before .before .before .block) .kept .1 .0
+
+pub ended-returns : (t : ℕ) → ended-lts.Need-returns (
+  block-below t,
+  block.Post,
+  expect-reads.Asked,
+  expect-reads.Learnt,
+) (ended-at t) ended.Post
+unfolding read
+ended-returns t c = stop _ (rw ((c .before .e) .given .1) at ((c .before .before .before .before .before .block) .ensures))
+
+pub ended-same-length-2 : (t : ℕ) → ended-lts.Need-same-length-2 (
+  block-below t,
+  block.Post,
+  expect-reads.Asked,
+  expect-reads.Learnt,
+) (ended-at t) ended.Post
+ended-same-length-2 t c = (c .before .before .before .before .before .before .block) .kept .1 .0
+
+pub ended-returns-2 : (t : ℕ) → ended-lts.Need-returns-2 (
+  block-below t,
+  block.Post,
+  expect-reads.Asked,
+  expect-reads.Learnt,
+) (ended-at t) ended.Post
+unfolding read
+ended-returns-2 t c =
+    let f1 = rw ((c .before .before .d) .given .1) at ((c .before .before .before .before .before .before .block) .ensures) in
+    onward-later (((c .before .before .before .before .before .before .before .before .before .before .args) .c) .place + 1) 0 _ _ f1 ((c .expect) .result) (expect-meets ((c .before .before .before .before .before .before .before .before .before .before .args) .stream .now) (ranks ((c .before .before .before .before .before .before .before .before .before .before .args) .ranking)) 0 (readers ((c .before .before .before .before .before .before .before .before .before .before .args) .stream .now) (ranks ((c .before .before .before .before .before .before .before .before .before .before .args) .ranking)) ((c .before .before .before .before .before .before .before .before .before .before .args) .g)) (hold 0 0 none) again ((c .before .before .d) .given .0 .0) 4 refl refl (((c .before .before .before .before .before .before .before .before .before .before .pre) .1) .formed) _ ((c .before .before .d) .given .0 .1 .0) 0 (omega (arith, f1 .room)) ((c .expect) .result) ((c .expect) .ensures)) (omega arith) (omega (arith, f1 .later))

@@ -1,0 +1,348 @@
+use borrow.Author.Needs.{needs}
+use Prim.Native.Nat.{ℕ}
+use Rattle.parser.proofs.args.Reads as args
+use Rattle.parser.proofs.def.Reads as def
+use Rattle.parser.proofs.lfunc.Reads as lfunc
+use Rattle.parser.proofs.+args+arm+arms+assign+block+body+call+cond+def+dos+ended+estat+exps+field+fields+fors+func+generic+head+index+item+keyed+lfunc+list+locs+method+named+numeric+primary+repeats+ret+simple+stat+stats+sub+suffix+suffixed+table+tail+tails+targs+upto+whiles.Lts-lfunc as lfunc-lts
+use Rattle.parser.proofs.close.Reads as close-reads
+use Rattle.stream.proofs.reader.expect_name.Reads as expect-name-reads
+use Rattle.stream.proofs.reader.expect_next.Reads as expect-next-reads
+use Rattle.stream.proofs.reader.take_next.Reads as take-next-reads
+use Rattle.parser.proofs.+args+arm+arms+assign+block+body+call+cond+def+dos+ended+estat+exps+field+fields+fors+func+generic+head+index+item+keyed+lfunc+list+locs+method+named+numeric+primary+repeats+ret+simple+stat+stats+sub+suffix+suffixed+table+tail+tails+targs+upto+whiles.{}
+use Rattle.parser.proofs.+args+arm+arms+assign+block+body+call+cond+def+dos+ended+estat+exps+field+fields+fors+func+generic+head+index+item+keyed+lfunc+list+locs+method+named+numeric+primary+repeats+ret+simple+stat+stats+sub+suffix+suffixed+table+tail+tails+targs+upto+whiles.Proof.Levels.{def-below, lfunc-at}
+use mathlib.Core.Path.{refl, sym, ap, _∙_}
+use Prim.Native.Nat.{ℕ, _+_, _-_}
+use native.Mathlib.Omega.{arith}
+use Rattle.operators.specs.Ranks.{ranks}
+use Rattle.tree.specs.Forest.{none}
+use Rattle.grammar.specs.Reading.{read, hold, wrap}
+use Rattle.grammar.specs.Levels.{readers}
+use Rattle.grammar.specs.Term.{opening}
+use Rattle.parser.specs.Contract.{again}
+use Rattle.stream.proofs.Words.{few}
+use Rattle.parser.proofs.Steps.{took-name}
+use Rattle.parser.proofs.Kit.{revalue, kept, stop, past, both, over}
+use Rattle.parser.proofs.Tokens.{any-fail, name-fail, word-fail, any-fine, name-fine, word-fine, weigh-fine}
+use Rattle.grammar.specs.Productions.{funcbody, localfunction}
+
+pub lfunc-take-next-requires : (t : ℕ) → lfunc-lts.Need-take-next-requires (
+  take-next-reads.Asked,
+  take-next-reads.Learnt,
+  expect-next-reads.Asked,
+  expect-next-reads.Learnt,
+  expect-name-reads.Asked,
+  expect-name-reads.Learnt,
+  def-below t,
+  def.Post,
+  close-reads.Asked,
+  close-reads.Learnt,
+) (lfunc-at t) lfunc.Post
+lfunc-take-next-requires t c κs = search needs
+
+pub lfunc-enum-known-d : (t : ℕ) → lfunc-lts.Need-enum-known-d (
+  take-next-reads.Asked,
+  take-next-reads.Learnt,
+  expect-next-reads.Asked,
+  expect-next-reads.Learnt,
+  expect-name-reads.Asked,
+  expect-name-reads.Learnt,
+  def-below t,
+  def.Post,
+  close-reads.Asked,
+  close-reads.Learnt,
+) (lfunc-at t) lfunc.Post
+lfunc-enum-known-d t c = search needs
+
+pub lfunc-enum-known-e : (t : ℕ) → lfunc-lts.Need-enum-known-e (
+  take-next-reads.Asked,
+  take-next-reads.Learnt,
+  expect-next-reads.Asked,
+  expect-next-reads.Learnt,
+  expect-name-reads.Asked,
+  expect-name-reads.Learnt,
+  def-below t,
+  def.Post,
+  close-reads.Asked,
+  close-reads.Learnt,
+) (lfunc-at t) lfunc.Post
+lfunc-enum-known-e t c = search needs
+
+pub lfunc-returns : (t : ℕ) → lfunc-lts.Need-returns (
+  take-next-reads.Asked,
+  take-next-reads.Learnt,
+  expect-next-reads.Asked,
+  expect-next-reads.Learnt,
+  expect-name-reads.Asked,
+  expect-name-reads.Learnt,
+  def-below t,
+  def.Post,
+  close-reads.Asked,
+  close-reads.Learnt,
+) (lfunc-at t) lfunc.Post
+unfolding read localfunction
+lfunc-returns t c = ap (wrap ((c .before .before .before .before .before .before .args) .stream .now) 10 opening (((c .before .before .before .before .before .before .args) .c) .place)) (stop _ (any-fail ((c .before .before .before .before .before .before .args) .stream .now) (ranks ((c .before .before .before .before .before .before .args) .ranking)) 0 (readers ((c .before .before .before .before .before .before .args) .stream .now) (ranks ((c .before .before .before .before .before .before .args) .ranking)) ((c .before .before .before .before .before .before .args) .g)) (hold 0 0 none) again ((c .before .before .before .before .before .before .args) .c) ((sym ((c .before .before .before .take-next) .ensures)) ∙ (c .before .e) .given .1)))
+
+pub lfunc-expect-next-requires : (t : ℕ) → lfunc-lts.Need-expect-next-requires (
+  take-next-reads.Asked,
+  take-next-reads.Learnt,
+  expect-next-reads.Asked,
+  expect-next-reads.Learnt,
+  expect-name-reads.Asked,
+  expect-name-reads.Learnt,
+  def-below t,
+  def.Post,
+  close-reads.Asked,
+  close-reads.Learnt,
+) (lfunc-at t) lfunc.Post
+lfunc-expect-next-requires t c κs = search needs
+
+pub lfunc-enum-known-e-2 : (t : ℕ) → lfunc-lts.Need-enum-known-e-2 (
+  take-next-reads.Asked,
+  take-next-reads.Learnt,
+  expect-next-reads.Asked,
+  expect-next-reads.Learnt,
+  expect-name-reads.Asked,
+  expect-name-reads.Learnt,
+  def-below t,
+  def.Post,
+  close-reads.Asked,
+  close-reads.Learnt,
+) (lfunc-at t) lfunc.Post
+lfunc-enum-known-e-2 t c = search needs
+
+pub lfunc-enum-known-e-3 : (t : ℕ) → lfunc-lts.Need-enum-known-e-3 (
+  take-next-reads.Asked,
+  take-next-reads.Learnt,
+  expect-next-reads.Asked,
+  expect-next-reads.Learnt,
+  expect-name-reads.Asked,
+  expect-name-reads.Learnt,
+  def-below t,
+  def.Post,
+  close-reads.Asked,
+  close-reads.Learnt,
+) (lfunc-at t) lfunc.Post
+lfunc-enum-known-e-3 t c = search needs
+
+pub lfunc-returns-2 : (t : ℕ) → lfunc-lts.Need-returns-2 (
+  take-next-reads.Asked,
+  take-next-reads.Learnt,
+  expect-next-reads.Asked,
+  expect-next-reads.Learnt,
+  expect-name-reads.Asked,
+  expect-name-reads.Learnt,
+  def-below t,
+  def.Post,
+  close-reads.Asked,
+  close-reads.Learnt,
+) (lfunc-at t) lfunc.Post
+unfolding read localfunction
+lfunc-returns-2 t c =
+    let f1 = any-fine ((c .before .before .before .before .before .before .before .before .before .before .args) .stream .now) (ranks ((c .before .before .before .before .before .before .before .before .before .before .args) .ranking)) 0 (readers ((c .before .before .before .before .before .before .before .before .before .before .args) .stream .now) (ranks ((c .before .before .before .before .before .before .before .before .before .before .args) .ranking)) ((c .before .before .before .before .before .before .before .before .before .before .args) .g)) (hold 0 0 none) again ((c .before .before .before .before .before .before .before .before .before .before .args) .c) ((c .before .before .before .before .before .before .before .before .before .before .args) .nodes .now) (((c .before .before .before .before .before .before .before .before .before .before .args) .used) + 1) 0 (((c .before .before .before .before .before .before .before .before .before .before .pre) .1 .0) .formed) (omega (arith, ((c .before .before .before .before .before .before .before .before .before .before .pre) .1 .0) .room)) ((sym ((c .before .before .before .before .before .before .before .take-next) .ensures)) ∙ (c .before .before .before .before .before .d) .given .1) in
+    ap (wrap ((c .before .before .before .before .before .before .before .before .before .before .args) .stream .now) 10 opening (((c .before .before .before .before .before .before .before .before .before .before .args) .c) .place)) (past _ f1 (stop _ (word-fail ((c .before .before .before .before .before .before .before .before .before .before .args) .stream .now) (ranks ((c .before .before .before .before .before .before .before .before .before .before .args) .ranking)) 0 (readers ((c .before .before .before .before .before .before .before .before .before .before .args) .stream .now) (ranks ((c .before .before .before .before .before .before .before .before .before .before .args) .ranking)) ((c .before .before .before .before .before .before .before .before .before .before .args) .g)) (hold 0 0 none) again ((c .before .before .before .before .before .d) .given .0 .1 .0) 7 refl refl ((sym ((c .before .before .before .expect-next) .ensures)) ∙ (c .before .e3) .given .1))))
+
+pub lfunc-expect-name-requires : (t : ℕ) → lfunc-lts.Need-expect-name-requires (
+  take-next-reads.Asked,
+  take-next-reads.Learnt,
+  expect-next-reads.Asked,
+  expect-next-reads.Learnt,
+  expect-name-reads.Asked,
+  expect-name-reads.Learnt,
+  def-below t,
+  def.Post,
+  close-reads.Asked,
+  close-reads.Learnt,
+) (lfunc-at t) lfunc.Post
+lfunc-expect-name-requires t c κs = search needs
+
+pub lfunc-enum-known-e-4 : (t : ℕ) → lfunc-lts.Need-enum-known-e-4 (
+  take-next-reads.Asked,
+  take-next-reads.Learnt,
+  expect-next-reads.Asked,
+  expect-next-reads.Learnt,
+  expect-name-reads.Asked,
+  expect-name-reads.Learnt,
+  def-below t,
+  def.Post,
+  close-reads.Asked,
+  close-reads.Learnt,
+) (lfunc-at t) lfunc.Post
+lfunc-enum-known-e-4 t c = search needs
+
+pub lfunc-enum-known-t : (t : ℕ) → lfunc-lts.Need-enum-known-t (
+  take-next-reads.Asked,
+  take-next-reads.Learnt,
+  expect-next-reads.Asked,
+  expect-next-reads.Learnt,
+  expect-name-reads.Asked,
+  expect-name-reads.Learnt,
+  def-below t,
+  def.Post,
+  close-reads.Asked,
+  close-reads.Learnt,
+) (lfunc-at t) lfunc.Post
+lfunc-enum-known-t t c = search needs
+
+pub lfunc-add-def : (t : ℕ) → lfunc-lts.Need-add-def (
+  take-next-reads.Asked,
+  take-next-reads.Learnt,
+  expect-next-reads.Asked,
+  expect-next-reads.Learnt,
+  expect-name-reads.Asked,
+  expect-name-reads.Learnt,
+  def-below t,
+  def.Post,
+  close-reads.Asked,
+  close-reads.Learnt,
+) (lfunc-at t) lfunc.Post
+lfunc-add-def t c = let b = few ((c .before .before .before .before .before .before .before .before .before .before .before .before .before .before .before .args) .stream .now) (((c .before .before .before .before .before .before .before .before .before .before .before .before .before .before .before .pre) .1 .0) .formed) in omega (arith, ((c .before .before .before .before .before .before .before .before .before .before .before .before .before .before .before .pre) .1 .0) .room, ((c .before .before .before .before .before .before .before .before .before .before .before .before .before .before .before .pre) .1 .0) .at)
+
+pub lfunc-def-requires : (t : ℕ) → lfunc-lts.Need-def-requires (
+  take-next-reads.Asked,
+  take-next-reads.Learnt,
+  expect-next-reads.Asked,
+  expect-next-reads.Learnt,
+  expect-name-reads.Asked,
+  expect-name-reads.Learnt,
+  def-below t,
+  def.Post,
+  close-reads.Asked,
+  close-reads.Learnt,
+) (lfunc-at t) lfunc.Post
+lfunc-def-requires t c κs =
+    let f1 = any-fine ((c .before .before .before .before .before .before .before .before .before .before .before .before .before .before .before .args) .stream .now) (ranks ((c .before .before .before .before .before .before .before .before .before .before .before .before .before .before .before .args) .ranking)) 0 (readers ((c .before .before .before .before .before .before .before .before .before .before .before .before .before .before .before .args) .stream .now) (ranks ((c .before .before .before .before .before .before .before .before .before .before .before .before .before .before .before .args) .ranking)) ((c .before .before .before .before .before .before .before .before .before .before .before .before .before .before .before .args) .g)) (hold 0 0 none) again ((c .before .before .before .before .before .before .before .before .before .before .before .before .before .before .before .args) .c) ((c .before .before .before .before .before .before .before .before .before .before .before .before .before .before .before .args) .nodes .now) (((c .before .before .before .before .before .before .before .before .before .before .before .before .before .before .before .args) .used) + 1) 0 (((c .before .before .before .before .before .before .before .before .before .before .before .before .before .before .before .pre) .1 .0) .formed) (omega (arith, ((c .before .before .before .before .before .before .before .before .before .before .before .before .before .before .before .pre) .1 .0) .room)) ((sym ((c .before .before .before .before .before .before .before .before .before .before .before .before .take-next) .ensures)) ∙ (c .before .before .before .before .before .before .before .before .before .before .d) .given .1) in
+    let f2 = word-fine ((c .before .before .before .before .before .before .before .before .before .before .before .before .before .before .before .args) .stream .now) (ranks ((c .before .before .before .before .before .before .before .before .before .before .before .before .before .before .before .args) .ranking)) 0 (readers ((c .before .before .before .before .before .before .before .before .before .before .before .before .before .before .before .args) .stream .now) (ranks ((c .before .before .before .before .before .before .before .before .before .before .before .before .before .before .before .args) .ranking)) ((c .before .before .before .before .before .before .before .before .before .before .before .before .before .before .before .args) .g)) (hold 0 0 none) again ((c .before .before .before .before .before .before .before .before .before .before .d) .given .0 .1 .0) ((c .before .before .before .before .before .before .before .before .before .before .before .before .before .before .before .args) .nodes .now) (((c .before .before .before .before .before .before .before .before .before .before .before .before .before .before .before .args) .used) + 1) 0 (((c .before .before .before .before .before .before .before .before .before .before .before .before .before .before .before .pre) .1 .0) .formed) (omega (arith, f1 .room)) 7 refl refl ((sym ((c .before .before .before .before .before .before .before .before .expect-next) .ensures)) ∙ (c .before .before .before .before .before .before .e2) .given .1) in
+    let f3 = name-fine ((c .before .before .before .before .before .before .before .before .before .before .before .before .before .before .before .args) .stream .now) (ranks ((c .before .before .before .before .before .before .before .before .before .before .before .before .before .before .before .args) .ranking)) 0 (readers ((c .before .before .before .before .before .before .before .before .before .before .before .before .before .before .before .args) .stream .now) (ranks ((c .before .before .before .before .before .before .before .before .before .before .before .before .before .before .before .args) .ranking)) ((c .before .before .before .before .before .before .before .before .before .before .before .before .before .before .before .args) .g)) (hold 0 0 none) again ((c .before .before .before .before .before .before .e2) .given .0 .1 .0) ((c .before .before .before .before .before .before .before .before .before .before .before .before .before .before .before .args) .nodes .now) (((c .before .before .before .before .before .before .before .before .before .before .before .before .before .before .before .args) .used) + 1) 0 (((c .before .before .before .before .before .before .before .before .before .before .before .before .before .before .before .pre) .1 .0) .formed) (omega (arith, f2 .room)) ((sym ((c .before .before .before .before .expect-name) .ensures)) ∙ (c .before .before .t) .given .1) in
+    let f4 = weigh-fine ((c .before .before .before .before .before .before .before .before .before .before .before .before .before .before .before .args) .stream .now) (ranks ((c .before .before .before .before .before .before .before .before .before .before .before .before .before .before .before .args) .ranking)) 0 (readers ((c .before .before .before .before .before .before .before .before .before .before .before .before .before .before .before .args) .stream .now) (ranks ((c .before .before .before .before .before .before .before .before .before .before .before .before .before .before .before .args) .ranking)) ((c .before .before .before .before .before .before .before .before .before .before .before .before .before .before .before .args) .g)) (hold 0 0 none) again ((c .before .before .before .before .before .before .e2) .given .0 .1 .0) ((c .before .before .before .before .before .before .before .before .before .before .before .before .before .before .before .args) .nodes .now) (((c .before .before .before .before .before .before .before .before .before .before .before .before .before .before .before .args) .used) + 1) 0 (took-name ((c .before .before .before .before .before .before .before .before .before .before .before .before .before .before .before .args) .stream .now) ((c .before .before .before .before .before .before .e2) .given .0 .1 .0) ((sym ((c .before .before .before .before .expect-name) .ensures)) ∙ (c .before .before .t) .given .1)) (f3 .at) (f3 .room) in
+    (omega (arith, (c .before .before .before .before .before .before .before .before .before .before .before .before .before .before .before .pre) .0), record { formed = ((c .before .before .before .before .before .before .before .before .before .before .before .before .before .before .before .pre) .1 .0) .formed; at = f3 .at; room = f3 .room })
+
+pub lfunc-enum-known-e-5 : (t : ℕ) → lfunc-lts.Need-enum-known-e-5 (
+  take-next-reads.Asked,
+  take-next-reads.Learnt,
+  expect-next-reads.Asked,
+  expect-next-reads.Learnt,
+  expect-name-reads.Asked,
+  expect-name-reads.Learnt,
+  def-below t,
+  def.Post,
+  close-reads.Asked,
+  close-reads.Learnt,
+) (lfunc-at t) lfunc.Post
+lfunc-enum-known-e-5 t c = search needs
+
+pub lfunc-enum-known-h : (t : ℕ) → lfunc-lts.Need-enum-known-h (
+  take-next-reads.Asked,
+  take-next-reads.Learnt,
+  expect-next-reads.Asked,
+  expect-next-reads.Learnt,
+  expect-name-reads.Asked,
+  expect-name-reads.Learnt,
+  def-below t,
+  def.Post,
+  close-reads.Asked,
+  close-reads.Learnt,
+) (lfunc-at t) lfunc.Post
+lfunc-enum-known-h t c = search needs
+
+pub lfunc-close-requires : (t : ℕ) → lfunc-lts.Need-close-requires (
+  take-next-reads.Asked,
+  take-next-reads.Learnt,
+  expect-next-reads.Asked,
+  expect-next-reads.Learnt,
+  expect-name-reads.Asked,
+  expect-name-reads.Learnt,
+  def-below t,
+  def.Post,
+  close-reads.Asked,
+  close-reads.Learnt,
+) (lfunc-at t) lfunc.Post
+lfunc-close-requires t c κs =
+    let f5 = rw ((c .before .before .h) .given .1) at ((c .before .before .before .before .before .before .def) .ensures) in
+    omega (arith, f5 .grown)
+
+pub lfunc-returns-3 : (t : ℕ) → lfunc-lts.Need-returns-3 (
+  take-next-reads.Asked,
+  take-next-reads.Learnt,
+  expect-next-reads.Asked,
+  expect-next-reads.Learnt,
+  expect-name-reads.Asked,
+  expect-name-reads.Learnt,
+  def-below t,
+  def.Post,
+  close-reads.Asked,
+  close-reads.Learnt,
+) (lfunc-at t) lfunc.Post
+unfolding read localfunction
+lfunc-returns-3 t c =
+    let f1 = any-fine ((c .before .before .before .before .before .before .before .before .before .before .before .before .before .before .args) .stream .now) (ranks ((c .before .before .before .before .before .before .before .before .before .before .before .before .before .before .args) .ranking)) 0 (readers ((c .before .before .before .before .before .before .before .before .before .before .before .before .before .before .args) .stream .now) (ranks ((c .before .before .before .before .before .before .before .before .before .before .before .before .before .before .args) .ranking)) ((c .before .before .before .before .before .before .before .before .before .before .before .before .before .before .args) .g)) (hold 0 0 none) again ((c .before .before .before .before .before .before .before .before .before .before .before .before .before .before .args) .c) ((c .before .before .before .before .before .before .before .before .before .before .before .before .before .before .args) .nodes .now) (((c .before .before .before .before .before .before .before .before .before .before .before .before .before .before .args) .used) + 1) 0 (((c .before .before .before .before .before .before .before .before .before .before .before .before .before .before .pre) .1 .0) .formed) (omega (arith, ((c .before .before .before .before .before .before .before .before .before .before .before .before .before .before .pre) .1 .0) .room)) ((sym ((c .before .before .before .before .before .before .before .before .before .before .before .take-next) .ensures)) ∙ (c .before .before .before .before .before .before .before .before .before .d) .given .1) in
+    let f2 = word-fine ((c .before .before .before .before .before .before .before .before .before .before .before .before .before .before .args) .stream .now) (ranks ((c .before .before .before .before .before .before .before .before .before .before .before .before .before .before .args) .ranking)) 0 (readers ((c .before .before .before .before .before .before .before .before .before .before .before .before .before .before .args) .stream .now) (ranks ((c .before .before .before .before .before .before .before .before .before .before .before .before .before .before .args) .ranking)) ((c .before .before .before .before .before .before .before .before .before .before .before .before .before .before .args) .g)) (hold 0 0 none) again ((c .before .before .before .before .before .before .before .before .before .d) .given .0 .1 .0) ((c .before .before .before .before .before .before .before .before .before .before .before .before .before .before .args) .nodes .now) (((c .before .before .before .before .before .before .before .before .before .before .before .before .before .before .args) .used) + 1) 0 (((c .before .before .before .before .before .before .before .before .before .before .before .before .before .before .pre) .1 .0) .formed) (omega (arith, f1 .room)) 7 refl refl ((sym ((c .before .before .before .before .before .before .before .expect-next) .ensures)) ∙ (c .before .before .before .before .before .e2) .given .1) in
+    ap (wrap ((c .before .before .before .before .before .before .before .before .before .before .before .before .before .before .args) .stream .now) 10 opening (((c .before .before .before .before .before .before .before .before .before .before .before .before .before .before .args) .c) .place)) (past _ f1 (past _ f2 (stop _ (name-fail ((c .before .before .before .before .before .before .before .before .before .before .before .before .before .before .args) .stream .now) (ranks ((c .before .before .before .before .before .before .before .before .before .before .before .before .before .before .args) .ranking)) 0 (readers ((c .before .before .before .before .before .before .before .before .before .before .before .before .before .before .args) .stream .now) (ranks ((c .before .before .before .before .before .before .before .before .before .before .before .before .before .before .args) .ranking)) ((c .before .before .before .before .before .before .before .before .before .before .before .before .before .before .args) .g)) (hold 0 0 none) again ((c .before .before .before .before .before .e2) .given .0 .1 .0) ((sym ((c .before .before .before .expect-name) .ensures)) ∙ (c .before .e4) .given .1)))))
+
+pub lfunc-same-length : (t : ℕ) → lfunc-lts.Need-same-length (
+  take-next-reads.Asked,
+  take-next-reads.Learnt,
+  expect-next-reads.Asked,
+  expect-next-reads.Learnt,
+  expect-name-reads.Asked,
+  expect-name-reads.Learnt,
+  def-below t,
+  def.Post,
+  close-reads.Asked,
+  close-reads.Learnt,
+) (lfunc-at t) lfunc.Post
+lfunc-same-length t c = (c .before .before .before .before .before .def) .kept .1 .0
+
+pub lfunc-returns-4 : (t : ℕ) → lfunc-lts.Need-returns-4 (
+  take-next-reads.Asked,
+  take-next-reads.Learnt,
+  expect-next-reads.Asked,
+  expect-next-reads.Learnt,
+  expect-name-reads.Asked,
+  expect-name-reads.Learnt,
+  def-below t,
+  def.Post,
+  close-reads.Asked,
+  close-reads.Learnt,
+) (lfunc-at t) lfunc.Post
+unfolding read localfunction
+lfunc-returns-4 t c =
+    let f1 = any-fine ((c .before .before .before .before .before .before .before .before .before .before .before .before .before .before .before .before .before .before .before .before .before .args) .stream .now) (ranks ((c .before .before .before .before .before .before .before .before .before .before .before .before .before .before .before .before .before .before .before .before .before .args) .ranking)) 0 (readers ((c .before .before .before .before .before .before .before .before .before .before .before .before .before .before .before .before .before .before .before .before .before .args) .stream .now) (ranks ((c .before .before .before .before .before .before .before .before .before .before .before .before .before .before .before .before .before .before .before .before .before .args) .ranking)) ((c .before .before .before .before .before .before .before .before .before .before .before .before .before .before .before .before .before .before .before .before .before .args) .g)) (hold 0 0 none) again ((c .before .before .before .before .before .before .before .before .before .before .before .before .before .before .before .before .before .before .before .before .before .args) .c) ((c .before .before .before .before .before .before .before .before .before .before .before .before .before .before .before .before .before .before .before .before .before .args) .nodes .now) (((c .before .before .before .before .before .before .before .before .before .before .before .before .before .before .before .before .before .before .before .before .before .args) .used) + 1) 0 (((c .before .before .before .before .before .before .before .before .before .before .before .before .before .before .before .before .before .before .before .before .before .pre) .1 .0) .formed) (omega (arith, ((c .before .before .before .before .before .before .before .before .before .before .before .before .before .before .before .before .before .before .before .before .before .pre) .1 .0) .room)) ((sym ((c .before .before .before .before .before .before .before .before .before .before .before .before .before .before .before .before .before .before .take-next) .ensures)) ∙ (c .before .before .before .before .before .before .before .before .before .before .before .before .before .before .before .before .d) .given .1) in
+    let f2 = word-fine ((c .before .before .before .before .before .before .before .before .before .before .before .before .before .before .before .before .before .before .before .before .before .args) .stream .now) (ranks ((c .before .before .before .before .before .before .before .before .before .before .before .before .before .before .before .before .before .before .before .before .before .args) .ranking)) 0 (readers ((c .before .before .before .before .before .before .before .before .before .before .before .before .before .before .before .before .before .before .before .before .before .args) .stream .now) (ranks ((c .before .before .before .before .before .before .before .before .before .before .before .before .before .before .before .before .before .before .before .before .before .args) .ranking)) ((c .before .before .before .before .before .before .before .before .before .before .before .before .before .before .before .before .before .before .before .before .before .args) .g)) (hold 0 0 none) again ((c .before .before .before .before .before .before .before .before .before .before .before .before .before .before .before .before .d) .given .0 .1 .0) ((c .before .before .before .before .before .before .before .before .before .before .before .before .before .before .before .before .before .before .before .before .before .args) .nodes .now) (((c .before .before .before .before .before .before .before .before .before .before .before .before .before .before .before .before .before .before .before .before .before .args) .used) + 1) 0 (((c .before .before .before .before .before .before .before .before .before .before .before .before .before .before .before .before .before .before .before .before .before .pre) .1 .0) .formed) (omega (arith, f1 .room)) 7 refl refl ((sym ((c .before .before .before .before .before .before .before .before .before .before .before .before .before .before .expect-next) .ensures)) ∙ (c .before .before .before .before .before .before .before .before .before .before .before .before .e2) .given .1) in
+    let f3 = name-fine ((c .before .before .before .before .before .before .before .before .before .before .before .before .before .before .before .before .before .before .before .before .before .args) .stream .now) (ranks ((c .before .before .before .before .before .before .before .before .before .before .before .before .before .before .before .before .before .before .before .before .before .args) .ranking)) 0 (readers ((c .before .before .before .before .before .before .before .before .before .before .before .before .before .before .before .before .before .before .before .before .before .args) .stream .now) (ranks ((c .before .before .before .before .before .before .before .before .before .before .before .before .before .before .before .before .before .before .before .before .before .args) .ranking)) ((c .before .before .before .before .before .before .before .before .before .before .before .before .before .before .before .before .before .before .before .before .before .args) .g)) (hold 0 0 none) again ((c .before .before .before .before .before .before .before .before .before .before .before .before .e2) .given .0 .1 .0) ((c .before .before .before .before .before .before .before .before .before .before .before .before .before .before .before .before .before .before .before .before .before .args) .nodes .now) (((c .before .before .before .before .before .before .before .before .before .before .before .before .before .before .before .before .before .before .before .before .before .args) .used) + 1) 0 (((c .before .before .before .before .before .before .before .before .before .before .before .before .before .before .before .before .before .before .before .before .before .pre) .1 .0) .formed) (omega (arith, f2 .room)) ((sym ((c .before .before .before .before .before .before .before .before .before .before .expect-name) .ensures)) ∙ (c .before .before .before .before .before .before .before .before .t) .given .1) in
+    let f4 = weigh-fine ((c .before .before .before .before .before .before .before .before .before .before .before .before .before .before .before .before .before .before .before .before .before .args) .stream .now) (ranks ((c .before .before .before .before .before .before .before .before .before .before .before .before .before .before .before .before .before .before .before .before .before .args) .ranking)) 0 (readers ((c .before .before .before .before .before .before .before .before .before .before .before .before .before .before .before .before .before .before .before .before .before .args) .stream .now) (ranks ((c .before .before .before .before .before .before .before .before .before .before .before .before .before .before .before .before .before .before .before .before .before .args) .ranking)) ((c .before .before .before .before .before .before .before .before .before .before .before .before .before .before .before .before .before .before .before .before .before .args) .g)) (hold 0 0 none) again ((c .before .before .before .before .before .before .before .before .before .before .before .before .e2) .given .0 .1 .0) ((c .before .before .before .before .before .before .before .before .before .before .before .before .before .before .before .before .before .before .before .before .before .args) .nodes .now) (((c .before .before .before .before .before .before .before .before .before .before .before .before .before .before .before .before .before .before .before .before .before .args) .used) + 1) 0 (took-name ((c .before .before .before .before .before .before .before .before .before .before .before .before .before .before .before .before .before .before .before .before .before .args) .stream .now) ((c .before .before .before .before .before .before .before .before .before .before .before .before .e2) .given .0 .1 .0) ((sym ((c .before .before .before .before .before .before .before .before .before .before .expect-name) .ensures)) ∙ (c .before .before .before .before .before .before .before .before .t) .given .1)) (f3 .at) (f3 .room) in
+    ap (wrap ((c .before .before .before .before .before .before .before .before .before .before .before .before .before .before .before .before .before .before .before .before .before .args) .stream .now) 10 opening (((c .before .before .before .before .before .before .before .before .before .before .before .before .before .before .before .before .before .before .before .before .before .args) .c) .place)) (past _ f1 (past _ f2 (past _ f3 (past (read ((c .before .before .before .before .before .before .before .before .before .before .before .before .before .before .before .before .before .before .before .before .before .args) .stream .now) (ranks ((c .before .before .before .before .before .before .before .before .before .before .before .before .before .before .before .before .before .before .before .before .before .args) .ranking)) 0 (readers ((c .before .before .before .before .before .before .before .before .before .before .before .before .before .before .before .before .before .before .before .before .before .args) .stream .now) (ranks ((c .before .before .before .before .before .before .before .before .before .before .before .before .before .before .before .before .before .before .before .before .before .args) .ranking)) ((c .before .before .before .before .before .before .before .before .before .before .before .before .before .before .before .before .before .before .before .before .before .args) .g)) (hold 0 0 none) funcbody again) f4 (rw ((c .before .e5) .given .1) at ((c .before .before .before .before .before .def) .ensures))))))
+
+pub lfunc-same-length-2 : (t : ℕ) → lfunc-lts.Need-same-length-2 (
+  take-next-reads.Asked,
+  take-next-reads.Learnt,
+  expect-next-reads.Asked,
+  expect-next-reads.Learnt,
+  expect-name-reads.Asked,
+  expect-name-reads.Learnt,
+  def-below t,
+  def.Post,
+  close-reads.Asked,
+  close-reads.Learnt,
+) (lfunc-at t) lfunc.Post
+lfunc-same-length-2 t c = (c .before .before .close) .kept .0 ∙ (c .before .before .before .before .before .before .before .before .before .def) .kept .1 .0
+
+pub lfunc-returns-5 : (t : ℕ) → lfunc-lts.Need-returns-5 (
+  take-next-reads.Asked,
+  take-next-reads.Learnt,
+  expect-next-reads.Asked,
+  expect-next-reads.Learnt,
+  expect-name-reads.Asked,
+  expect-name-reads.Learnt,
+  def-below t,
+  def.Post,
+  close-reads.Asked,
+  close-reads.Learnt,
+) (lfunc-at t) lfunc.Post
+unfolding read localfunction
+lfunc-returns-5 t c =
+    let f1 = any-fine ((c .before .before .before .before .before .before .before .before .before .before .before .before .before .before .before .before .before .before .before .before .before .before .before .before .before .args) .stream .now) (ranks ((c .before .before .before .before .before .before .before .before .before .before .before .before .before .before .before .before .before .before .before .before .before .before .before .before .before .args) .ranking)) 0 (readers ((c .before .before .before .before .before .before .before .before .before .before .before .before .before .before .before .before .before .before .before .before .before .before .before .before .before .args) .stream .now) (ranks ((c .before .before .before .before .before .before .before .before .before .before .before .before .before .before .before .before .before .before .before .before .before .before .before .before .before .args) .ranking)) ((c .before .before .before .before .before .before .before .before .before .before .before .before .before .before .before .before .before .before .before .before .before .before .before .before .before .args) .g)) (hold 0 0 none) again ((c .before .before .before .before .before .before .before .before .before .before .before .before .before .before .before .before .before .before .before .before .before .before .before .before .before .args) .c) ((c .before .before .before .before .before .before .before .before .before .before .before .before .before .before .before .before .before .before .before .before .before .before .before .before .before .args) .nodes .now) (((c .before .before .before .before .before .before .before .before .before .before .before .before .before .before .before .before .before .before .before .before .before .before .before .before .before .args) .used) + 1) 0 (((c .before .before .before .before .before .before .before .before .before .before .before .before .before .before .before .before .before .before .before .before .before .before .before .before .before .pre) .1 .0) .formed) (omega (arith, ((c .before .before .before .before .before .before .before .before .before .before .before .before .before .before .before .before .before .before .before .before .before .before .before .before .before .pre) .1 .0) .room)) ((sym ((c .before .before .before .before .before .before .before .before .before .before .before .before .before .before .before .before .before .before .before .before .before .before .take-next) .ensures)) ∙ (c .before .before .before .before .before .before .before .before .before .before .before .before .before .before .before .before .before .before .before .before .d) .given .1) in
+    let f2 = word-fine ((c .before .before .before .before .before .before .before .before .before .before .before .before .before .before .before .before .before .before .before .before .before .before .before .before .before .args) .stream .now) (ranks ((c .before .before .before .before .before .before .before .before .before .before .before .before .before .before .before .before .before .before .before .before .before .before .before .before .before .args) .ranking)) 0 (readers ((c .before .before .before .before .before .before .before .before .before .before .before .before .before .before .before .before .before .before .before .before .before .before .before .before .before .args) .stream .now) (ranks ((c .before .before .before .before .before .before .before .before .before .before .before .before .before .before .before .before .before .before .before .before .before .before .before .before .before .args) .ranking)) ((c .before .before .before .before .before .before .before .before .before .before .before .before .before .before .before .before .before .before .before .before .before .before .before .before .before .args) .g)) (hold 0 0 none) again ((c .before .before .before .before .before .before .before .before .before .before .before .before .before .before .before .before .before .before .before .before .d) .given .0 .1 .0) ((c .before .before .before .before .before .before .before .before .before .before .before .before .before .before .before .before .before .before .before .before .before .before .before .before .before .args) .nodes .now) (((c .before .before .before .before .before .before .before .before .before .before .before .before .before .before .before .before .before .before .before .before .before .before .before .before .before .args) .used) + 1) 0 (((c .before .before .before .before .before .before .before .before .before .before .before .before .before .before .before .before .before .before .before .before .before .before .before .before .before .pre) .1 .0) .formed) (omega (arith, f1 .room)) 7 refl refl ((sym ((c .before .before .before .before .before .before .before .before .before .before .before .before .before .before .before .before .before .before .expect-next) .ensures)) ∙ (c .before .before .before .before .before .before .before .before .before .before .before .before .before .before .before .before .e2) .given .1) in
+    let f3 = name-fine ((c .before .before .before .before .before .before .before .before .before .before .before .before .before .before .before .before .before .before .before .before .before .before .before .before .before .args) .stream .now) (ranks ((c .before .before .before .before .before .before .before .before .before .before .before .before .before .before .before .before .before .before .before .before .before .before .before .before .before .args) .ranking)) 0 (readers ((c .before .before .before .before .before .before .before .before .before .before .before .before .before .before .before .before .before .before .before .before .before .before .before .before .before .args) .stream .now) (ranks ((c .before .before .before .before .before .before .before .before .before .before .before .before .before .before .before .before .before .before .before .before .before .before .before .before .before .args) .ranking)) ((c .before .before .before .before .before .before .before .before .before .before .before .before .before .before .before .before .before .before .before .before .before .before .before .before .before .args) .g)) (hold 0 0 none) again ((c .before .before .before .before .before .before .before .before .before .before .before .before .before .before .before .before .e2) .given .0 .1 .0) ((c .before .before .before .before .before .before .before .before .before .before .before .before .before .before .before .before .before .before .before .before .before .before .before .before .before .args) .nodes .now) (((c .before .before .before .before .before .before .before .before .before .before .before .before .before .before .before .before .before .before .before .before .before .before .before .before .before .args) .used) + 1) 0 (((c .before .before .before .before .before .before .before .before .before .before .before .before .before .before .before .before .before .before .before .before .before .before .before .before .before .pre) .1 .0) .formed) (omega (arith, f2 .room)) ((sym ((c .before .before .before .before .before .before .before .before .before .before .before .before .before .before .expect-name) .ensures)) ∙ (c .before .before .before .before .before .before .before .before .before .before .before .before .t) .given .1) in
+    let f4 = weigh-fine ((c .before .before .before .before .before .before .before .before .before .before .before .before .before .before .before .before .before .before .before .before .before .before .before .before .before .args) .stream .now) (ranks ((c .before .before .before .before .before .before .before .before .before .before .before .before .before .before .before .before .before .before .before .before .before .before .before .before .before .args) .ranking)) 0 (readers ((c .before .before .before .before .before .before .before .before .before .before .before .before .before .before .before .before .before .before .before .before .before .before .before .before .before .args) .stream .now) (ranks ((c .before .before .before .before .before .before .before .before .before .before .before .before .before .before .before .before .before .before .before .before .before .before .before .before .before .args) .ranking)) ((c .before .before .before .before .before .before .before .before .before .before .before .before .before .before .before .before .before .before .before .before .before .before .before .before .before .args) .g)) (hold 0 0 none) again ((c .before .before .before .before .before .before .before .before .before .before .before .before .before .before .before .before .e2) .given .0 .1 .0) ((c .before .before .before .before .before .before .before .before .before .before .before .before .before .before .before .before .before .before .before .before .before .before .before .before .before .args) .nodes .now) (((c .before .before .before .before .before .before .before .before .before .before .before .before .before .before .before .before .before .before .before .before .before .before .before .before .before .args) .used) + 1) 0 (took-name ((c .before .before .before .before .before .before .before .before .before .before .before .before .before .before .before .before .before .before .before .before .before .before .before .before .before .args) .stream .now) ((c .before .before .before .before .before .before .before .before .before .before .before .before .before .before .before .before .e2) .given .0 .1 .0) ((sym ((c .before .before .before .before .before .before .before .before .before .before .before .before .before .before .expect-name) .ensures)) ∙ (c .before .before .before .before .before .before .before .before .before .before .before .before .t) .given .1)) (f3 .at) (f3 .room) in
+    let f5 = rw ((c .before .before .before .before .before .h) .given .1) at ((c .before .before .before .before .before .before .before .before .before .def) .ensures) in
+    rw ((c .before .before .close) .ensures .0) (over 10 opening (((c .before .before .before .before .before .before .before .before .before .before .before .before .before .before .before .before .before .before .before .before .before .before .before .before .before .args) .c) .place) ((c .before .before .before .before .before .before .before .before .before .before .before .before .before .before .before .before .before .before .before .before .before .before .before .before .before .args) .line) (revalue (omega arith) (both _ f1 (both _ f2 (both _ f3 (both (read ((c .before .before .before .before .before .before .before .before .before .before .before .before .before .before .before .before .before .before .before .before .before .before .before .before .before .args) .stream .now) (ranks ((c .before .before .before .before .before .before .before .before .before .before .before .before .before .before .before .before .before .before .before .before .before .before .before .before .before .args) .ranking)) 0 (readers ((c .before .before .before .before .before .before .before .before .before .before .before .before .before .before .before .before .before .before .before .before .before .before .before .before .before .args) .stream .now) (ranks ((c .before .before .before .before .before .before .before .before .before .before .before .before .before .before .before .before .before .before .before .before .before .before .before .before .before .args) .ranking)) ((c .before .before .before .before .before .before .before .before .before .before .before .before .before .before .before .before .before .before .before .before .before .before .before .before .before .args) .g)) (hold 0 0 none) funcbody again) f4 f5 (omega arith)) (omega arith)) (omega arith)) (omega arith))) ((c .before .before .close) .ensures .1) ((c .before .before .before .before .before .before .before .before .before .before .before .before .before .before .before .before .before .before .before .before .before .before .before .before .before .pre) .1 .1))

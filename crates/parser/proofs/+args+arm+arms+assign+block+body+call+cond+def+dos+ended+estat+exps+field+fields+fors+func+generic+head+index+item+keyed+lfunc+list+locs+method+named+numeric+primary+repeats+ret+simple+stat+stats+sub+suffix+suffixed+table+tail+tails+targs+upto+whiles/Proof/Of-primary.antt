@@ -1,0 +1,416 @@
+use borrow.Author.Needs.{needs}
+use Prim.Native.Nat.{ℕ}
+use Rattle.parser.proofs.args.Reads as args
+use Rattle.parser.proofs.primary.Reads as primary
+use Rattle.parser.proofs.+args+arm+arms+assign+block+body+call+cond+def+dos+ended+estat+exps+field+fields+fors+func+generic+head+index+item+keyed+lfunc+list+locs+method+named+numeric+primary+repeats+ret+simple+stat+stats+sub+suffix+suffixed+table+tail+tails+targs+upto+whiles.Lts-primary as primary-lts
+use Rattle.parser.proofs.sub.Reads as sub
+use Rattle.parser.proofs.expect.Reads as expect-reads
+use Rattle.parser.proofs.refuse.Reads as refuse-reads
+use Rattle.stream.proofs.reader.take_next.Reads as take-next-reads
+use Rattle.tree.proofs.put.Reads as put-reads
+use Rattle.parser.proofs.+args+arm+arms+assign+block+body+call+cond+def+dos+ended+estat+exps+field+fields+fors+func+generic+head+index+item+keyed+lfunc+list+locs+method+named+numeric+primary+repeats+ret+simple+stat+stats+sub+suffix+suffixed+table+tail+tails+targs+upto+whiles.{}
+use Rattle.parser.proofs.+args+arm+arms+assign+block+body+call+cond+def+dos+ended+estat+exps+field+fields+fors+func+generic+head+index+item+keyed+lfunc+list+locs+method+named+numeric+primary+repeats+ret+simple+stat+stats+sub+suffix+suffixed+table+tail+tails+targs+upto+whiles.Proof.Levels.{primary-at, sub-below}
+use mathlib.Core.Path.{refl, sym, ap, _∙_}
+use mathlib.Core.List.{[], _∷_}
+use Prim.Native.Nat.{ℕ, _+_, _-_}
+use native.Mathlib.Omega.{arith}
+use Rattle.operators.specs.Ranks.{ranks}
+use Rattle.tree.specs.Forest.{none}
+use Rattle.grammar.specs.Reading.{Out, fail, read, hold, wrap, then, last}
+use Rattle.grammar.specs.Levels.{readers}
+use Rattle.grammar.specs.Term.{next, unlined, here}
+use Rattle.grammar.specs.Term.{any, leaf, _⨾_, on, refuse, node}
+use Rattle.grammar.specs.Productions.{word}
+use Rattle.parser.specs.Contract.{says, again}
+use Rattle.stream.proofs.Words.{few}
+use Rattle.parser.proofs.Steps.{took-next, next-fail, next-in, next-out}
+use Rattle.parser.proofs.Kit.{alter, kept, stop, past, both, over}
+use Rattle.parser.proofs.Tokens.{ready-after, any-says, any-fine, leaf-after}
+use Rattle.parser.proofs.Looks.{got-again, take-fails, take-gets, take-takes, refused, expect-meets}
+use Rattle.grammar.specs.Productions.{expr, primary as primary′}
+use Rattle.stream.specs.Reader.{readAhead}
+use Rattle.parser.proofs.Tags.{one-in, one-out, alike, last-from, tag-is}
+
+pub primary-take-next-requires : (t : ℕ) → primary-lts.Need-take-next-requires (
+  take-next-reads.Asked,
+  take-next-reads.Learnt,
+  sub-below t,
+  sub.Post,
+  expect-reads.Asked,
+  expect-reads.Learnt,
+  put-reads.Asked,
+  put-reads.Learnt,
+  refuse-reads.Asked,
+  refuse-reads.Learnt,
+) (primary-at t) primary.Post
+primary-take-next-requires t c κs = search needs
+
+pub primary-enum-known-e : (t : ℕ) → primary-lts.Need-enum-known-e (
+  take-next-reads.Asked,
+  take-next-reads.Learnt,
+  sub-below t,
+  sub.Post,
+  expect-reads.Asked,
+  expect-reads.Learnt,
+  put-reads.Asked,
+  put-reads.Learnt,
+  refuse-reads.Asked,
+  refuse-reads.Learnt,
+) (primary-at t) primary.Post
+primary-enum-known-e t c = search needs
+
+pub primary-enum-known-t : (t : ℕ) → primary-lts.Need-enum-known-t (
+  take-next-reads.Asked,
+  take-next-reads.Learnt,
+  sub-below t,
+  sub.Post,
+  expect-reads.Asked,
+  expect-reads.Learnt,
+  put-reads.Asked,
+  put-reads.Learnt,
+  refuse-reads.Asked,
+  refuse-reads.Learnt,
+) (primary-at t) primary.Post
+primary-enum-known-t t c = search needs
+
+pub primary-add-sub : (t : ℕ) → primary-lts.Need-add-sub (
+  take-next-reads.Asked,
+  take-next-reads.Learnt,
+  sub-below t,
+  sub.Post,
+  expect-reads.Asked,
+  expect-reads.Learnt,
+  put-reads.Asked,
+  put-reads.Learnt,
+  refuse-reads.Asked,
+  refuse-reads.Learnt,
+) (primary-at t) primary.Post
+primary-add-sub t c = let b = few ((c .before .before .before .before .before .before .before .before .args) .stream .now) (((c .before .before .before .before .before .before .before .before .pre) .1) .formed) in omega (arith, ((c .before .before .before .before .before .before .before .before .pre) .1) .room, ((c .before .before .before .before .before .before .before .before .pre) .1) .at)
+
+pub primary-sub-requires : (t : ℕ) → primary-lts.Need-sub-requires (
+  take-next-reads.Asked,
+  take-next-reads.Learnt,
+  sub-below t,
+  sub.Post,
+  expect-reads.Asked,
+  expect-reads.Learnt,
+  put-reads.Asked,
+  put-reads.Learnt,
+  refuse-reads.Asked,
+  refuse-reads.Learnt,
+) (primary-at t) primary.Post
+primary-sub-requires t c κs = (omega (arith, (c .before .before .before .before .before .before .before .before .pre) .0), ready-after (((c .before .before .before .before .before .before .before .before .args) .used) + 1) 1 (((c .before .before .before .before .before .before .before .before .pre) .1) .formed) (took-next ((c .before .before .before .before .before .before .before .before .args) .stream .now) ((c .before .before .before .before .before .before .before .before .args) .c) ((sym ((c .before .before .before .before .before .take-next) .ensures)) ∙ (c .before .before .before .t) .given .1)) (omega (arith, ((c .before .before .before .before .before .before .before .before .pre) .1) .room)))
+
+pub primary-enum-known-e-2 : (t : ℕ) → primary-lts.Need-enum-known-e-2 (
+  take-next-reads.Asked,
+  take-next-reads.Learnt,
+  sub-below t,
+  sub.Post,
+  expect-reads.Asked,
+  expect-reads.Learnt,
+  put-reads.Asked,
+  put-reads.Learnt,
+  refuse-reads.Asked,
+  refuse-reads.Learnt,
+) (primary-at t) primary.Post
+primary-enum-known-e-2 t c = search needs
+
+pub primary-enum-known-e-3 : (t : ℕ) → primary-lts.Need-enum-known-e-3 (
+  take-next-reads.Asked,
+  take-next-reads.Learnt,
+  sub-below t,
+  sub.Post,
+  expect-reads.Asked,
+  expect-reads.Learnt,
+  put-reads.Asked,
+  put-reads.Learnt,
+  refuse-reads.Asked,
+  refuse-reads.Learnt,
+) (primary-at t) primary.Post
+primary-enum-known-e-3 t c = search needs
+
+pub primary-expect-requires : (t : ℕ) → primary-lts.Need-expect-requires (
+  take-next-reads.Asked,
+  take-next-reads.Learnt,
+  sub-below t,
+  sub.Post,
+  expect-reads.Asked,
+  expect-reads.Learnt,
+  put-reads.Asked,
+  put-reads.Learnt,
+  refuse-reads.Asked,
+  refuse-reads.Learnt,
+) (primary-at t) primary.Post
+primary-expect-requires t c κs = search needs
+
+pub primary-enum-known-e-4 : (t : ℕ) → primary-lts.Need-enum-known-e-4 (
+  take-next-reads.Asked,
+  take-next-reads.Learnt,
+  sub-below t,
+  sub.Post,
+  expect-reads.Asked,
+  expect-reads.Learnt,
+  put-reads.Asked,
+  put-reads.Learnt,
+  refuse-reads.Asked,
+  refuse-reads.Learnt,
+) (primary-at t) primary.Post
+primary-enum-known-e-4 t c = search needs
+
+pub primary-enum-known-f : (t : ℕ) → primary-lts.Need-enum-known-f (
+  take-next-reads.Asked,
+  take-next-reads.Learnt,
+  sub-below t,
+  sub.Post,
+  expect-reads.Asked,
+  expect-reads.Learnt,
+  put-reads.Asked,
+  put-reads.Learnt,
+  refuse-reads.Asked,
+  refuse-reads.Learnt,
+) (primary-at t) primary.Post
+primary-enum-known-f t c = search needs
+
+pub primary-sub-put : (t : ℕ) → primary-lts.Need-sub-put (
+  take-next-reads.Asked,
+  take-next-reads.Learnt,
+  sub-below t,
+  sub.Post,
+  expect-reads.Asked,
+  expect-reads.Learnt,
+  put-reads.Asked,
+  put-reads.Learnt,
+  refuse-reads.Asked,
+  refuse-reads.Learnt,
+) (primary-at t) primary.Post
+primary-sub-put t c =
+    let f2 = rw ((c .before .before .before .before .before .before .e3) .given .1) at ((c .before .before .before .before .before .before .before .before .before .before .sub) .ensures) in
+    let m3 = expect-meets ((c .before .before .before .before .before .before .before .before .before .before .before .before .before .before .before .before .before .before .before .args) .stream .now) (ranks ((c .before .before .before .before .before .before .before .before .before .before .before .before .before .before .before .before .before .before .before .args) .ranking)) 0 (readers ((c .before .before .before .before .before .before .before .before .before .before .before .before .before .before .before .before .before .before .before .args) .stream .now) (ranks ((c .before .before .before .before .before .before .before .before .before .before .before .before .before .before .before .before .before .before .before .args) .ranking)) ((c .before .before .before .before .before .before .before .before .before .before .before .before .before .before .before .before .before .before .before .args) .g)) (hold 0 0 none) again ((c .before .before .before .before .before .before .e3) .given .0 .0) 50 refl refl (((c .before .before .before .before .before .before .before .before .before .before .before .before .before .before .before .before .before .before .before .pre) .1) .formed) ((c .before .before .before .before .before .before .before .before .before .before .sub) .last .1 .0) ((c .before .before .before .before .before .before .e3) .given .0 .1 .0) 0 (omega (arith, f2 .room)) ((c .before .before .before .before .expect) .result) ((c .before .before .before .before .expect) .ensures) in
+    let f3 = rw ((c .before .before .f) .given .1) at m3 in
+    omega (arith, f2 .grown, f3 .grown)
+
+pub primary-put-requires : (t : ℕ) → primary-lts.Need-put-requires (
+  take-next-reads.Asked,
+  take-next-reads.Learnt,
+  sub-below t,
+  sub.Post,
+  expect-reads.Asked,
+  expect-reads.Learnt,
+  put-reads.Asked,
+  put-reads.Learnt,
+  refuse-reads.Asked,
+  refuse-reads.Learnt,
+) (primary-at t) primary.Post
+primary-put-requires t c κs = search needs
+
+pub primary-put-requires-2 : (t : ℕ) → primary-lts.Need-put-requires-2 (
+  take-next-reads.Asked,
+  take-next-reads.Learnt,
+  sub-below t,
+  sub.Post,
+  expect-reads.Asked,
+  expect-reads.Learnt,
+  put-reads.Asked,
+  put-reads.Learnt,
+  refuse-reads.Asked,
+  refuse-reads.Learnt,
+) (primary-at t) primary.Post
+primary-put-requires-2 t c κs = search needs
+
+pub primary-add-t36 : (t : ℕ) → primary-lts.Need-add-t36 (
+  take-next-reads.Asked,
+  take-next-reads.Learnt,
+  sub-below t,
+  sub.Post,
+  expect-reads.Asked,
+  expect-reads.Learnt,
+  put-reads.Asked,
+  put-reads.Learnt,
+  refuse-reads.Asked,
+  refuse-reads.Learnt,
+) (primary-at t) primary.Post
+primary-add-t36 t c = let b = few ((c .before .before .before .before .before .before .before .before .before .before .before .args) .stream .now) (((c .before .before .before .before .before .before .before .before .before .before .before .pre) .1) .formed) in omega (arith, ((c .before .before .before .before .before .before .before .before .before .before .before .pre) .1) .room, ((c .before .before .before .before .before .before .before .before .before .before .before .pre) .1) .at)
+
+pub primary-refuse-requires : (t : ℕ) → primary-lts.Need-refuse-requires (
+  take-next-reads.Asked,
+  take-next-reads.Learnt,
+  sub-below t,
+  sub.Post,
+  expect-reads.Asked,
+  expect-reads.Learnt,
+  put-reads.Asked,
+  put-reads.Learnt,
+  refuse-reads.Asked,
+  refuse-reads.Learnt,
+) (primary-at t) primary.Post
+primary-refuse-requires t c κs = search needs
+
+pub primary-returns : (t : ℕ) → primary-lts.Need-returns (
+  take-next-reads.Asked,
+  take-next-reads.Learnt,
+  sub-below t,
+  sub.Post,
+  expect-reads.Asked,
+  expect-reads.Learnt,
+  put-reads.Asked,
+  put-reads.Learnt,
+  refuse-reads.Asked,
+  refuse-reads.Learnt,
+) (primary-at t) primary.Post
+unfolding read primary′
+primary-returns t c = next-fail ((c .before .before .before .before .before .before .args) .stream .now) (ranks ((c .before .before .before .before .before .before .args) .ranking)) 0 (readers ((c .before .before .before .before .before .before .args) .stream .now) (ranks ((c .before .before .before .before .before .before .args) .ranking)) ((c .before .before .before .before .before .before .args) .g)) (hold 0 0 none) again ((c .before .before .before .before .before .before .args) .c) (49 ∷ []) (node 31 here unlined (any ⨾ expr ⨾ word 50)) (on next (58 ∷ []) (any ⨾ leaf 30) (refuse 61)) (take-fails ((c .before .before .before .before .before .before .args) .stream .now) ((c .before .before .before .before .before .before .args) .c) ((sym ((c .before .before .before .take-next) .ensures)) ∙ (c .before .e) .given .1))
+
+pub primary-same-length : (t : ℕ) → primary-lts.Need-same-length (
+  take-next-reads.Asked,
+  take-next-reads.Learnt,
+  sub-below t,
+  sub.Post,
+  expect-reads.Asked,
+  expect-reads.Learnt,
+  put-reads.Asked,
+  put-reads.Learnt,
+  refuse-reads.Asked,
+  refuse-reads.Learnt,
+) (primary-at t) primary.Post
+primary-same-length t c = (c .before .before .before .before .before .sub) .kept .1 .0
+
+pub primary-returns-2 : (t : ℕ) → primary-lts.Need-returns-2 (
+  take-next-reads.Asked,
+  take-next-reads.Learnt,
+  sub-below t,
+  sub.Post,
+  expect-reads.Asked,
+  expect-reads.Learnt,
+  put-reads.Asked,
+  put-reads.Learnt,
+  refuse-reads.Asked,
+  refuse-reads.Learnt,
+) (primary-at t) primary.Post
+unfolding read primary′
+primary-returns-2 t c =
+    let f1 = any-fine ((c .before .before .before .before .before .before .before .before .before .before .before .before .before .before .args) .stream .now) (ranks ((c .before .before .before .before .before .before .before .before .before .before .before .before .before .before .args) .ranking)) 0 (readers ((c .before .before .before .before .before .before .before .before .before .before .before .before .before .before .args) .stream .now) (ranks ((c .before .before .before .before .before .before .before .before .before .before .before .before .before .before .args) .ranking)) ((c .before .before .before .before .before .before .before .before .before .before .before .before .before .before .args) .g)) (hold 0 0 none) again (readAhead ((c .before .before .before .before .before .before .before .before .before .before .before .before .before .before .args) .stream .now) ((c .before .before .before .before .before .before .before .before .before .before .before .before .before .before .args) .c) 1) ((c .before .before .before .before .before .before .before .before .before .before .before .before .before .before .args) .nodes .now) (((c .before .before .before .before .before .before .before .before .before .before .before .before .before .before .args) .used) + 1) 0 (((c .before .before .before .before .before .before .before .before .before .before .before .before .before .before .pre) .1) .formed) (omega (arith, ((c .before .before .before .before .before .before .before .before .before .before .before .before .before .before .pre) .1) .room)) (take-takes ((c .before .before .before .before .before .before .before .before .before .before .before .before .before .before .args) .stream .now) ((c .before .before .before .before .before .before .before .before .before .before .before .before .before .before .args) .c) ((sym ((c .before .before .before .before .before .before .before .before .before .before .before .take-next) .ensures)) ∙ (c .before .before .before .before .before .before .before .before .before .t) .given .1)) in
+    let e0 = next-in ((c .before .before .before .before .before .before .before .before .before .before .before .before .before .before .args) .stream .now) (ranks ((c .before .before .before .before .before .before .before .before .before .before .before .before .before .before .args) .ranking)) 0 (readers ((c .before .before .before .before .before .before .before .before .before .before .before .before .before .before .args) .stream .now) (ranks ((c .before .before .before .before .before .before .before .before .before .before .before .before .before .before .args) .ranking)) ((c .before .before .before .before .before .before .before .before .before .before .before .before .before .before .args) .g)) (hold 0 0 none) again ((c .before .before .before .before .before .before .before .before .before .before .before .before .before .before .args) .c) (49 ∷ []) (node 31 here unlined (any ⨾ expr ⨾ word 50)) (on next (58 ∷ []) (any ⨾ leaf 30) (refuse 61)) (take-gets ((c .before .before .before .before .before .before .before .before .before .before .before .before .before .before .args) .stream .now) ((c .before .before .before .before .before .before .before .before .before .before .before .before .before .before .args) .c) ((sym ((c .before .before .before .before .before .before .before .before .before .before .before .take-next) .ensures)) ∙ (c .before .before .before .before .before .before .before .before .before .t) .given .1)) (one-in 49 ((c .before .before .before .before .before .before .before .match2) .keys1)) in
+    e0 ∙ ap (wrap ((c .before .before .before .before .before .before .before .before .before .before .before .before .before .before .args) .stream .now) 31 unlined (((c .before .before .before .before .before .before .before .before .before .before .before .before .before .before .args) .c) .place)) (past _ f1 (stop _ (rw ((c .before .e2) .given .1) at ((c .before .before .before .before .before .sub) .ensures))))
+
+pub primary-same-length-2 : (t : ℕ) → primary-lts.Need-same-length-2 (
+  take-next-reads.Asked,
+  take-next-reads.Learnt,
+  sub-below t,
+  sub.Post,
+  expect-reads.Asked,
+  expect-reads.Learnt,
+  put-reads.Asked,
+  put-reads.Learnt,
+  refuse-reads.Asked,
+  refuse-reads.Learnt,
+) (primary-at t) primary.Post
+primary-same-length-2 t c = (c .before .before .before .before .before .before .before .before .before .sub) .kept .1 .0
+
+pub primary-returns-3 : (t : ℕ) → primary-lts.Need-returns-3 (
+  take-next-reads.Asked,
+  take-next-reads.Learnt,
+  sub-below t,
+  sub.Post,
+  expect-reads.Asked,
+  expect-reads.Learnt,
+  put-reads.Asked,
+  put-reads.Learnt,
+  refuse-reads.Asked,
+  refuse-reads.Learnt,
+) (primary-at t) primary.Post
+unfolding read primary′
+primary-returns-3 t c =
+    let f1 = any-fine ((c .before .before .before .before .before .before .before .before .before .before .before .before .before .before .before .before .before .before .args) .stream .now) (ranks ((c .before .before .before .before .before .before .before .before .before .before .before .before .before .before .before .before .before .before .args) .ranking)) 0 (readers ((c .before .before .before .before .before .before .before .before .before .before .before .before .before .before .before .before .before .before .args) .stream .now) (ranks ((c .before .before .before .before .before .before .before .before .before .before .before .before .before .before .before .before .before .before .args) .ranking)) ((c .before .before .before .before .before .before .before .before .before .before .before .before .before .before .before .before .before .before .args) .g)) (hold 0 0 none) again (readAhead ((c .before .before .before .before .before .before .before .before .before .before .before .before .before .before .before .before .before .before .args) .stream .now) ((c .before .before .before .before .before .before .before .before .before .before .before .before .before .before .before .before .before .before .args) .c) 1) ((c .before .before .before .before .before .before .before .before .before .before .before .before .before .before .before .before .before .before .args) .nodes .now) (((c .before .before .before .before .before .before .before .before .before .before .before .before .before .before .before .before .before .before .args) .used) + 1) 0 (((c .before .before .before .before .before .before .before .before .before .before .before .before .before .before .before .before .before .before .pre) .1) .formed) (omega (arith, ((c .before .before .before .before .before .before .before .before .before .before .before .before .before .before .before .before .before .before .pre) .1) .room)) (take-takes ((c .before .before .before .before .before .before .before .before .before .before .before .before .before .before .before .before .before .before .args) .stream .now) ((c .before .before .before .before .before .before .before .before .before .before .before .before .before .before .before .before .before .before .args) .c) ((sym ((c .before .before .before .before .before .before .before .before .before .before .before .before .before .before .before .take-next) .ensures)) ∙ (c .before .before .before .before .before .before .before .before .before .before .before .before .before .t) .given .1)) in
+    let e0 = next-in ((c .before .before .before .before .before .before .before .before .before .before .before .before .before .before .before .before .before .before .args) .stream .now) (ranks ((c .before .before .before .before .before .before .before .before .before .before .before .before .before .before .before .before .before .before .args) .ranking)) 0 (readers ((c .before .before .before .before .before .before .before .before .before .before .before .before .before .before .before .before .before .before .args) .stream .now) (ranks ((c .before .before .before .before .before .before .before .before .before .before .before .before .before .before .before .before .before .before .args) .ranking)) ((c .before .before .before .before .before .before .before .before .before .before .before .before .before .before .before .before .before .before .args) .g)) (hold 0 0 none) again ((c .before .before .before .before .before .before .before .before .before .before .before .before .before .before .before .before .before .before .args) .c) (49 ∷ []) (node 31 here unlined (any ⨾ expr ⨾ word 50)) (on next (58 ∷ []) (any ⨾ leaf 30) (refuse 61)) (take-gets ((c .before .before .before .before .before .before .before .before .before .before .before .before .before .before .before .before .before .before .args) .stream .now) ((c .before .before .before .before .before .before .before .before .before .before .before .before .before .before .before .before .before .before .args) .c) ((sym ((c .before .before .before .before .before .before .before .before .before .before .before .before .before .before .before .take-next) .ensures)) ∙ (c .before .before .before .before .before .before .before .before .before .before .before .before .before .t) .given .1)) (one-in 49 ((c .before .before .before .before .before .before .before .before .before .before .before .match2) .keys1)) in
+    let f2 = rw ((c .before .before .before .before .before .e3) .given .1) at ((c .before .before .before .before .before .before .before .before .before .sub) .ensures) in
+    let m3 = expect-meets ((c .before .before .before .before .before .before .before .before .before .before .before .before .before .before .before .before .before .before .args) .stream .now) (ranks ((c .before .before .before .before .before .before .before .before .before .before .before .before .before .before .before .before .before .before .args) .ranking)) 0 (readers ((c .before .before .before .before .before .before .before .before .before .before .before .before .before .before .before .before .before .before .args) .stream .now) (ranks ((c .before .before .before .before .before .before .before .before .before .before .before .before .before .before .before .before .before .before .args) .ranking)) ((c .before .before .before .before .before .before .before .before .before .before .before .before .before .before .before .before .before .before .args) .g)) (hold 0 0 none) again ((c .before .before .before .before .before .e3) .given .0 .0) 50 refl refl (((c .before .before .before .before .before .before .before .before .before .before .before .before .before .before .before .before .before .before .pre) .1) .formed) ((c .before .before .before .before .before .before .before .before .before .sub) .last .1 .0) ((c .before .before .before .before .before .e3) .given .0 .1 .0) 0 (omega (arith, f2 .room)) ((c .before .before .before .expect) .result) ((c .before .before .before .expect) .ensures) in
+    e0 ∙ ap (wrap ((c .before .before .before .before .before .before .before .before .before .before .before .before .before .before .before .before .before .before .args) .stream .now) 31 unlined (((c .before .before .before .before .before .before .before .before .before .before .before .before .before .before .before .before .before .before .args) .c) .place)) (past _ f1 (past _ f2 (rw ((c .before .e4) .given .1) at m3)))
+
+pub primary-same-length-3 : (t : ℕ) → primary-lts.Need-same-length-3 (
+  take-next-reads.Asked,
+  take-next-reads.Learnt,
+  sub-below t,
+  sub.Post,
+  expect-reads.Asked,
+  expect-reads.Learnt,
+  put-reads.Asked,
+  put-reads.Learnt,
+  refuse-reads.Asked,
+  refuse-reads.Learnt,
+) (primary-at t) primary.Post
+primary-same-length-3 t c = (c .before .before .put) .kept .0 ∙ (c .before .before .before .before .before .before .before .before .before .before .before .before .before .sub) .kept .1 .0
+
+pub primary-returns-4 : (t : ℕ) → primary-lts.Need-returns-4 (
+  take-next-reads.Asked,
+  take-next-reads.Learnt,
+  sub-below t,
+  sub.Post,
+  expect-reads.Asked,
+  expect-reads.Learnt,
+  put-reads.Asked,
+  put-reads.Learnt,
+  refuse-reads.Asked,
+  refuse-reads.Learnt,
+) (primary-at t) primary.Post
+unfolding read primary′
+primary-returns-4 t c =
+    let f1 = any-fine ((c .before .before .before .before .before .before .before .before .before .before .before .before .before .before .before .before .before .before .before .before .before .before .args) .stream .now) (ranks ((c .before .before .before .before .before .before .before .before .before .before .before .before .before .before .before .before .before .before .before .before .before .before .args) .ranking)) 0 (readers ((c .before .before .before .before .before .before .before .before .before .before .before .before .before .before .before .before .before .before .before .before .before .before .args) .stream .now) (ranks ((c .before .before .before .before .before .before .before .before .before .before .before .before .before .before .before .before .before .before .before .before .before .before .args) .ranking)) ((c .before .before .before .before .before .before .before .before .before .before .before .before .before .before .before .before .before .before .before .before .before .before .args) .g)) (hold 0 0 none) again (readAhead ((c .before .before .before .before .before .before .before .before .before .before .before .before .before .before .before .before .before .before .before .before .before .before .args) .stream .now) ((c .before .before .before .before .before .before .before .before .before .before .before .before .before .before .before .before .before .before .before .before .before .before .args) .c) 1) ((c .before .before .before .before .before .before .before .before .before .before .before .before .before .before .before .before .before .before .before .before .before .before .args) .nodes .now) (((c .before .before .before .before .before .before .before .before .before .before .before .before .before .before .before .before .before .before .before .before .before .before .args) .used) + 1) 0 (((c .before .before .before .before .before .before .before .before .before .before .before .before .before .before .before .before .before .before .before .before .before .before .pre) .1) .formed) (omega (arith, ((c .before .before .before .before .before .before .before .before .before .before .before .before .before .before .before .before .before .before .before .before .before .before .pre) .1) .room)) (take-takes ((c .before .before .before .before .before .before .before .before .before .before .before .before .before .before .before .before .before .before .before .before .before .before .args) .stream .now) ((c .before .before .before .before .before .before .before .before .before .before .before .before .before .before .before .before .before .before .before .before .before .before .args) .c) ((sym ((c .before .before .before .before .before .before .before .before .before .before .before .before .before .before .before .before .before .before .before .take-next) .ensures)) ∙ (c .before .before .before .before .before .before .before .before .before .before .before .before .before .before .before .before .before .t) .given .1)) in
+    let e0 = next-in ((c .before .before .before .before .before .before .before .before .before .before .before .before .before .before .before .before .before .before .before .before .before .before .args) .stream .now) (ranks ((c .before .before .before .before .before .before .before .before .before .before .before .before .before .before .before .before .before .before .before .before .before .before .args) .ranking)) 0 (readers ((c .before .before .before .before .before .before .before .before .before .before .before .before .before .before .before .before .before .before .before .before .before .before .args) .stream .now) (ranks ((c .before .before .before .before .before .before .before .before .before .before .before .before .before .before .before .before .before .before .before .before .before .before .args) .ranking)) ((c .before .before .before .before .before .before .before .before .before .before .before .before .before .before .before .before .before .before .before .before .before .before .args) .g)) (hold 0 0 none) again ((c .before .before .before .before .before .before .before .before .before .before .before .before .before .before .before .before .before .before .before .before .before .before .args) .c) (49 ∷ []) (node 31 here unlined (any ⨾ expr ⨾ word 50)) (on next (58 ∷ []) (any ⨾ leaf 30) (refuse 61)) (take-gets ((c .before .before .before .before .before .before .before .before .before .before .before .before .before .before .before .before .before .before .before .before .before .before .args) .stream .now) ((c .before .before .before .before .before .before .before .before .before .before .before .before .before .before .before .before .before .before .before .before .before .before .args) .c) ((sym ((c .before .before .before .before .before .before .before .before .before .before .before .before .before .before .before .before .before .before .before .take-next) .ensures)) ∙ (c .before .before .before .before .before .before .before .before .before .before .before .before .before .before .before .before .before .t) .given .1)) (one-in 49 ((c .before .before .before .before .before .before .before .before .before .before .before .before .before .before .before .match2) .keys1)) in
+    let f2 = rw ((c .before .before .before .before .before .before .before .before .before .e3) .given .1) at ((c .before .before .before .before .before .before .before .before .before .before .before .before .before .sub) .ensures) in
+    let m3 = expect-meets ((c .before .before .before .before .before .before .before .before .before .before .before .before .before .before .before .before .before .before .before .before .before .before .args) .stream .now) (ranks ((c .before .before .before .before .before .before .before .before .before .before .before .before .before .before .before .before .before .before .before .before .before .before .args) .ranking)) 0 (readers ((c .before .before .before .before .before .before .before .before .before .before .before .before .before .before .before .before .before .before .before .before .before .before .args) .stream .now) (ranks ((c .before .before .before .before .before .before .before .before .before .before .before .before .before .before .before .before .before .before .before .before .before .before .args) .ranking)) ((c .before .before .before .before .before .before .before .before .before .before .before .before .before .before .before .before .before .before .before .before .before .before .args) .g)) (hold 0 0 none) again ((c .before .before .before .before .before .before .before .before .before .e3) .given .0 .0) 50 refl refl (((c .before .before .before .before .before .before .before .before .before .before .before .before .before .before .before .before .before .before .before .before .before .before .pre) .1) .formed) ((c .before .before .before .before .before .before .before .before .before .before .before .before .before .sub) .last .1 .0) ((c .before .before .before .before .before .before .before .before .before .e3) .given .0 .1 .0) 0 (omega (arith, f2 .room)) ((c .before .before .before .before .before .before .before .expect) .result) ((c .before .before .before .before .before .before .before .expect) .ensures) in
+    let f3 = rw ((c .before .before .before .before .before .f) .given .1) at m3 in
+    let g = both _ f1 (both _ f2 f3 (omega arith)) (omega arith) in
+    let f = alter e0 (over 31 unlined (((c .before .before .before .before .before .before .before .before .before .before .before .before .before .before .before .before .before .before .before .before .before .before .args) .c) .place) 0 g ((c .before .before .put) .ensures) refl) in
+    (f, tag-is f 31 (ap (last-from 0) e0 ∙ ap (λ (z : Out). last-from 0 (wrap ((c .before .before .before .before .before .before .before .before .before .before .before .before .before .before .before .before .before .before .before .before .before .before .args) .stream .now) 31 unlined (((c .before .before .before .before .before .before .before .before .before .before .before .before .before .before .before .before .before .before .before .before .before .before .args) .c) .place) z)) (g .says)))
+
+pub primary-same-length-4 : (t : ℕ) → primary-lts.Need-same-length-4 (
+  take-next-reads.Asked,
+  take-next-reads.Learnt,
+  sub-below t,
+  sub.Post,
+  expect-reads.Asked,
+  expect-reads.Learnt,
+  put-reads.Asked,
+  put-reads.Learnt,
+  refuse-reads.Asked,
+  refuse-reads.Learnt,
+) (primary-at t) primary.Post
+primary-same-length-4 t c = (c .before .before .put2) .kept .0
+
+pub primary-returns-5 : (t : ℕ) → primary-lts.Need-returns-5 (
+  take-next-reads.Asked,
+  take-next-reads.Learnt,
+  sub-below t,
+  sub.Post,
+  expect-reads.Asked,
+  expect-reads.Learnt,
+  put-reads.Asked,
+  put-reads.Learnt,
+  refuse-reads.Asked,
+  refuse-reads.Learnt,
+) (primary-at t) primary.Post
+unfolding read primary′
+primary-returns-5 t c =
+    let e0 = next-out ((c .before .before .before .before .before .before .before .before .before .before .before .args) .stream .now) (ranks ((c .before .before .before .before .before .before .before .before .before .before .before .args) .ranking)) 0 (readers ((c .before .before .before .before .before .before .before .before .before .before .before .args) .stream .now) (ranks ((c .before .before .before .before .before .before .before .before .before .before .before .args) .ranking)) ((c .before .before .before .before .before .before .before .before .before .before .before .args) .g)) (hold 0 0 none) again ((c .before .before .before .before .before .before .before .before .before .before .before .args) .c) (49 ∷ []) (node 31 here unlined (any ⨾ expr ⨾ word 50)) (on next (58 ∷ []) (any ⨾ leaf 30) (refuse 61)) (take-gets ((c .before .before .before .before .before .before .before .before .before .before .before .args) .stream .now) ((c .before .before .before .before .before .before .before .before .before .before .before .args) .c) ((sym ((c .before .before .before .before .before .before .before .before .take-next) .ensures)) ∙ (c .before .before .before .before .before .before .t) .given .1)) (alike (49 ∷ []) ((c .before .before .before .before .match2) .keys2)) ∙ next-in ((c .before .before .before .before .before .before .before .before .before .before .before .args) .stream .now) (ranks ((c .before .before .before .before .before .before .before .before .before .before .before .args) .ranking)) 0 (readers ((c .before .before .before .before .before .before .before .before .before .before .before .args) .stream .now) (ranks ((c .before .before .before .before .before .before .before .before .before .before .before .args) .ranking)) ((c .before .before .before .before .before .before .before .before .before .before .before .args) .g)) (hold 0 0 none) again (readAhead ((c .before .before .before .before .before .before .before .before .before .before .before .args) .stream .now) ((c .before .before .before .before .before .before .before .before .before .before .before .args) .c) 1) (58 ∷ []) (any ⨾ leaf 30) (refuse 61) (got-again ((c .before .before .before .before .before .before .before .before .before .before .before .args) .stream .now) ((c .before .before .before .before .before .before .before .before .before .before .before .args) .c) (take-gets ((c .before .before .before .before .before .before .before .before .before .before .before .args) .stream .now) ((c .before .before .before .before .before .before .before .before .before .before .before .args) .c) ((sym ((c .before .before .before .before .before .before .before .before .take-next) .ensures)) ∙ (c .before .before .before .before .before .before .t) .given .1))) (one-in 58 ((c .before .before .before .before .match2) .keys2)) in
+    let y = any-says ((c .before .before .before .before .before .before .before .before .before .before .before .args) .stream .now) (ranks ((c .before .before .before .before .before .before .before .before .before .before .before .args) .ranking)) 0 (readers ((c .before .before .before .before .before .before .before .before .before .before .before .args) .stream .now) (ranks ((c .before .before .before .before .before .before .before .before .before .before .before .args) .ranking)) ((c .before .before .before .before .before .before .before .before .before .before .before .args) .g)) (hold 0 0 none) again (readAhead ((c .before .before .before .before .before .before .before .before .before .before .before .args) .stream .now) ((c .before .before .before .before .before .before .before .before .before .before .before .args) .c) 1) (take-takes ((c .before .before .before .before .before .before .before .before .before .before .before .args) .stream .now) ((c .before .before .before .before .before .before .before .before .before .before .before .args) .c) ((sym ((c .before .before .before .before .before .before .before .before .take-next) .ensures)) ∙ (c .before .before .before .before .before .before .t) .given .1)) in
+    let f = alter e0 (leaf-after ((c .before .before .before .before .before .before .before .before .before .before .before .args) .stream .now) (ranks ((c .before .before .before .before .before .before .before .before .before .before .before .args) .ranking)) 0 (readers ((c .before .before .before .before .before .before .before .before .before .before .before .args) .stream .now) (ranks ((c .before .before .before .before .before .before .before .before .before .before .before .args) .ranking)) ((c .before .before .before .before .before .before .before .before .before .before .before .args) .g)) (hold 0 0 none) again (readAhead ((c .before .before .before .before .before .before .before .before .before .before .before .args) .stream .now) ((c .before .before .before .before .before .before .before .before .before .before .before .args) .c) 1) ((c .before .before .before .before .before .before .before .before .before .before .before .args) .nodes .now) ((c .before .before .before .before .before .before .before .before .before .before .before .args) .used) 0 30 (((c .before .before .before .before .before .before .before .before .before .before .before .pre) .1) .formed) (omega (arith, ((c .before .before .before .before .before .before .before .before .before .before .before .pre) .1) .room)) ((c .before .before .put2) .ensures) any y (took-next ((c .before .before .before .before .before .before .before .before .before .before .before .args) .stream .now) (readAhead ((c .before .before .before .before .before .before .before .before .before .before .before .args) .stream .now) ((c .before .before .before .before .before .before .before .before .before .before .before .args) .c) 1) (take-takes ((c .before .before .before .before .before .before .before .before .before .before .before .args) .stream .now) ((c .before .before .before .before .before .before .before .before .before .before .before .args) .c) ((sym ((c .before .before .before .before .before .before .before .before .take-next) .ensures)) ∙ (c .before .before .before .before .before .before .t) .given .1)))) in
+    (f, tag-is f 30 (ap (last-from 0) e0 ∙ ap (λ (z : Out). last-from 0 (then z (read ((c .before .before .before .before .before .before .before .before .before .before .before .args) .stream .now) (ranks ((c .before .before .before .before .before .before .before .before .before .before .before .args) .ranking)) 0 (readers ((c .before .before .before .before .before .before .before .before .before .before .before .args) .stream .now) (ranks ((c .before .before .before .before .before .before .before .before .before .before .before .args) .ranking)) ((c .before .before .before .before .before .before .before .before .before .before .before .args) .g)) (hold 0 0 none) (leaf 30) again))) y))
+
+pub primary-returns-6 : (t : ℕ) → primary-lts.Need-returns-6 (
+  take-next-reads.Asked,
+  take-next-reads.Learnt,
+  sub-below t,
+  sub.Post,
+  expect-reads.Asked,
+  expect-reads.Learnt,
+  put-reads.Asked,
+  put-reads.Learnt,
+  refuse-reads.Asked,
+  refuse-reads.Learnt,
+) (primary-at t) primary.Post
+unfolding read primary′
+primary-returns-6 t c =
+    next-out ((c .before .before .before .before .before .before .before .before .args) .stream .now) (ranks ((c .before .before .before .before .before .before .before .before .args) .ranking)) 0 (readers ((c .before .before .before .before .before .before .before .before .args) .stream .now) (ranks ((c .before .before .before .before .before .before .before .before .args) .ranking)) ((c .before .before .before .before .before .before .before .before .args) .g)) (hold 0 0 none) again ((c .before .before .before .before .before .before .before .before .args) .c) (49 ∷ []) (node 31 here unlined (any ⨾ expr ⨾ word 50)) (on next (58 ∷ []) (any ⨾ leaf 30) (refuse 61)) (take-gets ((c .before .before .before .before .before .before .before .before .args) .stream .now) ((c .before .before .before .before .before .before .before .before .args) .c) ((sym ((c .before .before .before .before .before .take-next) .ensures)) ∙ (c .before .before .before .t) .given .1)) (one-out 49 ((c .before .match2) .rest .0 .1))
+    ∙ next-out ((c .before .before .before .before .before .before .before .before .args) .stream .now) (ranks ((c .before .before .before .before .before .before .before .before .args) .ranking)) 0 (readers ((c .before .before .before .before .before .before .before .before .args) .stream .now) (ranks ((c .before .before .before .before .before .before .before .before .args) .ranking)) ((c .before .before .before .before .before .before .before .before .args) .g)) (hold 0 0 none) again (readAhead ((c .before .before .before .before .before .before .before .before .args) .stream .now) ((c .before .before .before .before .before .before .before .before .args) .c) 1) (58 ∷ []) (any ⨾ leaf 30) (refuse 61) (got-again ((c .before .before .before .before .before .before .before .before .args) .stream .now) ((c .before .before .before .before .before .before .before .before .args) .c) (take-gets ((c .before .before .before .before .before .before .before .before .args) .stream .now) ((c .before .before .before .before .before .before .before .before .args) .c) ((sym ((c .before .before .before .before .before .take-next) .ensures)) ∙ (c .before .before .before .t) .given .1))) (one-out 58 ((c .before .match2) .rest .1))
+    ∙ refused ((c .before .before .before .before .before .before .before .before .args) .stream .now) (ranks ((c .before .before .before .before .before .before .before .before .args) .ranking)) 0 (readers ((c .before .before .before .before .before .before .before .before .args) .stream .now) (ranks ((c .before .before .before .before .before .before .before .before .args) .ranking)) ((c .before .before .before .before .before .before .before .before .args) .g)) (hold 0 0 none) again ((c .before .before .before .before .before .before .before .before .args) .c) 61 (take-gets ((c .before .before .before .before .before .before .before .before .args) .stream .now) ((c .before .before .before .before .before .before .before .before .args) .c) ((sym ((c .before .before .before .before .before .take-next) .ensures)) ∙ (c .before .before .before .t) .given .1))
+    ∙ ap fail (sym ((c .refuse) .ensures))

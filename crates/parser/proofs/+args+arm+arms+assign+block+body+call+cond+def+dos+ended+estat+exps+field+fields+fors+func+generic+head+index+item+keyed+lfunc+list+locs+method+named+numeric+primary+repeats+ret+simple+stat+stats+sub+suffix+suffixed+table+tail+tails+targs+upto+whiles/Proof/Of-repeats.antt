@@ -1,0 +1,380 @@
+use borrow.Author.Needs.{needs}
+use Prim.Native.Nat.{ℕ}
+use Rattle.parser.proofs.args.Reads as args
+use Rattle.parser.proofs.block.Reads as block
+use Rattle.parser.proofs.repeats.Reads as repeats
+use Rattle.parser.proofs.+args+arm+arms+assign+block+body+call+cond+def+dos+ended+estat+exps+field+fields+fors+func+generic+head+index+item+keyed+lfunc+list+locs+method+named+numeric+primary+repeats+ret+simple+stat+stats+sub+suffix+suffixed+table+tail+tails+targs+upto+whiles.Lts-repeats as repeats-lts
+use Rattle.parser.proofs.sub.Reads as sub
+use Rattle.parser.proofs.close.Reads as close-reads
+use Rattle.parser.proofs.expect.Reads as expect-reads
+use Rattle.stream.proofs.reader.expect_next.Reads as expect-next-reads
+use Rattle.parser.proofs.+args+arm+arms+assign+block+body+call+cond+def+dos+ended+estat+exps+field+fields+fors+func+generic+head+index+item+keyed+lfunc+list+locs+method+named+numeric+primary+repeats+ret+simple+stat+stats+sub+suffix+suffixed+table+tail+tails+targs+upto+whiles.{}
+use Rattle.parser.proofs.+args+arm+arms+assign+block+body+call+cond+def+dos+ended+estat+exps+field+fields+fors+func+generic+head+index+item+keyed+lfunc+list+locs+method+named+numeric+primary+repeats+ret+simple+stat+stats+sub+suffix+suffixed+table+tail+tails+targs+upto+whiles.Proof.Levels.{block-below, repeats-at, sub-below}
+use mathlib.Core.Path.{refl, sym, ap, _∙_}
+use Prim.Native.Nat.{ℕ, _+_, _-_}
+use native.Mathlib.Omega.{arith}
+use Rattle.operators.specs.Ranks.{ranks}
+use Rattle.tree.specs.Forest.{none}
+use Rattle.grammar.specs.Reading.{read, hold, wrap, last}
+use Rattle.grammar.specs.Levels.{readers}
+use Rattle.grammar.specs.Term.{opening}
+use Rattle.parser.specs.Contract.{again}
+use Rattle.stream.proofs.Words.{few}
+use Rattle.parser.proofs.Steps.{took-kind}
+use Rattle.parser.proofs.Kit.{kept, stop, past, both, over}
+use Rattle.parser.proofs.Tokens.{ready-after, word-fail, word-fine}
+use Rattle.parser.proofs.Looks.{expect-meets}
+use Rattle.grammar.specs.Productions.{repeatstat}
+
+pub repeats-expect-next-requires : (t : ℕ) → repeats-lts.Need-expect-next-requires (
+  expect-next-reads.Asked,
+  expect-next-reads.Learnt,
+  block-below t,
+  block.Post,
+  expect-reads.Asked,
+  expect-reads.Learnt,
+  sub-below t,
+  sub.Post,
+  close-reads.Asked,
+  close-reads.Learnt,
+) (repeats-at t) repeats.Post
+repeats-expect-next-requires t c κs = search needs
+
+pub repeats-enum-known-d : (t : ℕ) → repeats-lts.Need-enum-known-d (
+  expect-next-reads.Asked,
+  expect-next-reads.Learnt,
+  block-below t,
+  block.Post,
+  expect-reads.Asked,
+  expect-reads.Learnt,
+  sub-below t,
+  sub.Post,
+  close-reads.Asked,
+  close-reads.Learnt,
+) (repeats-at t) repeats.Post
+repeats-enum-known-d t c = search needs
+
+pub repeats-enum-known-e : (t : ℕ) → repeats-lts.Need-enum-known-e (
+  expect-next-reads.Asked,
+  expect-next-reads.Learnt,
+  block-below t,
+  block.Post,
+  expect-reads.Asked,
+  expect-reads.Learnt,
+  sub-below t,
+  sub.Post,
+  close-reads.Asked,
+  close-reads.Learnt,
+) (repeats-at t) repeats.Post
+repeats-enum-known-e t c = search needs
+
+pub repeats-returns : (t : ℕ) → repeats-lts.Need-returns (
+  expect-next-reads.Asked,
+  expect-next-reads.Learnt,
+  block-below t,
+  block.Post,
+  expect-reads.Asked,
+  expect-reads.Learnt,
+  sub-below t,
+  sub.Post,
+  close-reads.Asked,
+  close-reads.Learnt,
+) (repeats-at t) repeats.Post
+unfolding read repeatstat
+repeats-returns t c = ap (wrap ((c .before .before .before .before .before .before .args) .stream .now) 8 opening (((c .before .before .before .before .before .before .args) .c) .place)) (stop _ (word-fail ((c .before .before .before .before .before .before .args) .stream .now) (ranks ((c .before .before .before .before .before .before .args) .ranking)) 0 (readers ((c .before .before .before .before .before .before .args) .stream .now) (ranks ((c .before .before .before .before .before .before .args) .ranking)) ((c .before .before .before .before .before .before .args) .g)) (hold 0 0 none) again ((c .before .before .before .before .before .before .args) .c) 16 refl refl ((sym ((c .before .before .before .expect-next) .ensures)) ∙ (c .before .e) .given .1)))
+
+pub repeats-add-block : (t : ℕ) → repeats-lts.Need-add-block (
+  expect-next-reads.Asked,
+  expect-next-reads.Learnt,
+  block-below t,
+  block.Post,
+  expect-reads.Asked,
+  expect-reads.Learnt,
+  sub-below t,
+  sub.Post,
+  close-reads.Asked,
+  close-reads.Learnt,
+) (repeats-at t) repeats.Post
+repeats-add-block t c = let b = few ((c .before .before .before .before .before .before .before .args) .stream .now) (((c .before .before .before .before .before .before .before .pre) .1 .0) .formed) in omega (arith, ((c .before .before .before .before .before .before .before .pre) .1 .0) .room, ((c .before .before .before .before .before .before .before .pre) .1 .0) .at)
+
+pub repeats-block-requires : (t : ℕ) → repeats-lts.Need-block-requires (
+  expect-next-reads.Asked,
+  expect-next-reads.Learnt,
+  block-below t,
+  block.Post,
+  expect-reads.Asked,
+  expect-reads.Learnt,
+  sub-below t,
+  sub.Post,
+  close-reads.Asked,
+  close-reads.Learnt,
+) (repeats-at t) repeats.Post
+repeats-block-requires t c κs = (omega (arith, (c .before .before .before .before .before .before .before .pre) .0), ready-after (((c .before .before .before .before .before .before .before .args) .used) + 1) 0 (((c .before .before .before .before .before .before .before .pre) .1 .0) .formed) (took-kind ((c .before .before .before .before .before .before .before .args) .stream .now) ((c .before .before .before .before .before .before .before .args) .c) 16 ((sym ((c .before .before .before .before .expect-next) .ensures)) ∙ (c .before .before .d) .given .1) .0) (omega (arith, ((c .before .before .before .before .before .before .before .pre) .1 .0) .room)))
+
+pub repeats-enum-known-e-2 : (t : ℕ) → repeats-lts.Need-enum-known-e-2 (
+  expect-next-reads.Asked,
+  expect-next-reads.Learnt,
+  block-below t,
+  block.Post,
+  expect-reads.Asked,
+  expect-reads.Learnt,
+  sub-below t,
+  sub.Post,
+  close-reads.Asked,
+  close-reads.Learnt,
+) (repeats-at t) repeats.Post
+repeats-enum-known-e-2 t c = search needs
+
+pub repeats-enum-known-e-3 : (t : ℕ) → repeats-lts.Need-enum-known-e-3 (
+  expect-next-reads.Asked,
+  expect-next-reads.Learnt,
+  block-below t,
+  block.Post,
+  expect-reads.Asked,
+  expect-reads.Learnt,
+  sub-below t,
+  sub.Post,
+  close-reads.Asked,
+  close-reads.Learnt,
+) (repeats-at t) repeats.Post
+repeats-enum-known-e-3 t c = search needs
+
+pub repeats-expect-requires : (t : ℕ) → repeats-lts.Need-expect-requires (
+  expect-next-reads.Asked,
+  expect-next-reads.Learnt,
+  block-below t,
+  block.Post,
+  expect-reads.Asked,
+  expect-reads.Learnt,
+  sub-below t,
+  sub.Post,
+  close-reads.Asked,
+  close-reads.Learnt,
+) (repeats-at t) repeats.Post
+repeats-expect-requires t c κs = search needs
+
+pub repeats-enum-known-e-4 : (t : ℕ) → repeats-lts.Need-enum-known-e-4 (
+  expect-next-reads.Asked,
+  expect-next-reads.Learnt,
+  block-below t,
+  block.Post,
+  expect-reads.Asked,
+  expect-reads.Learnt,
+  sub-below t,
+  sub.Post,
+  close-reads.Asked,
+  close-reads.Learnt,
+) (repeats-at t) repeats.Post
+repeats-enum-known-e-4 t c = search needs
+
+pub repeats-enum-known-f : (t : ℕ) → repeats-lts.Need-enum-known-f (
+  expect-next-reads.Asked,
+  expect-next-reads.Learnt,
+  block-below t,
+  block.Post,
+  expect-reads.Asked,
+  expect-reads.Learnt,
+  sub-below t,
+  sub.Post,
+  close-reads.Asked,
+  close-reads.Learnt,
+) (repeats-at t) repeats.Post
+repeats-enum-known-f t c = search needs
+
+pub repeats-sub-requires : (t : ℕ) → repeats-lts.Need-sub-requires (
+  expect-next-reads.Asked,
+  expect-next-reads.Learnt,
+  block-below t,
+  block.Post,
+  expect-reads.Asked,
+  expect-reads.Learnt,
+  sub-below t,
+  sub.Post,
+  close-reads.Asked,
+  close-reads.Learnt,
+) (repeats-at t) repeats.Post
+repeats-sub-requires t c κs =
+    let f2 = rw ((c .before .before .before .before .before .before .e3) .given .1) at ((c .before .before .before .before .before .before .before .before .before .before .block) .ensures) in
+    let m3 = expect-meets ((c .before .before .before .before .before .before .before .before .before .before .before .before .before .before .before .before .before .before .args) .stream .now) (ranks ((c .before .before .before .before .before .before .before .before .before .before .before .before .before .before .before .before .before .before .args) .ranking)) 0 (readers ((c .before .before .before .before .before .before .before .before .before .before .before .before .before .before .before .before .before .before .args) .stream .now) (ranks ((c .before .before .before .before .before .before .before .before .before .before .before .before .before .before .before .before .before .before .args) .ranking)) ((c .before .before .before .before .before .before .before .before .before .before .before .before .before .before .before .before .before .before .args) .g)) (hold 0 0 none) again ((c .before .before .before .before .before .before .e3) .given .0 .0) 20 refl refl (((c .before .before .before .before .before .before .before .before .before .before .before .before .before .before .before .before .before .before .pre) .1 .0) .formed) ((c .before .before .before .before .before .before .before .before .before .before .block) .last .1 .0) ((c .before .before .before .before .before .before .e3) .given .0 .1 .0) 0 (omega (arith, f2 .room)) ((c .before .before .before .before .expect) .result) ((c .before .before .before .before .expect) .ensures) in
+    let f3 = rw ((c .before .before .f) .given .1) at m3 in
+    (omega (arith, (c .before .before .before .before .before .before .before .before .before .before .before .before .before .before .before .before .before .before .pre) .0), record { formed = ((c .before .before .before .before .before .before .before .before .before .before .before .before .before .before .before .before .before .before .pre) .1 .0) .formed; at = f3 .at; room = omega (arith, f3 .room) })
+
+pub repeats-enum-known-e-5 : (t : ℕ) → repeats-lts.Need-enum-known-e-5 (
+  expect-next-reads.Asked,
+  expect-next-reads.Learnt,
+  block-below t,
+  block.Post,
+  expect-reads.Asked,
+  expect-reads.Learnt,
+  sub-below t,
+  sub.Post,
+  close-reads.Asked,
+  close-reads.Learnt,
+) (repeats-at t) repeats.Post
+repeats-enum-known-e-5 t c = search needs
+
+pub repeats-enum-known-h : (t : ℕ) → repeats-lts.Need-enum-known-h (
+  expect-next-reads.Asked,
+  expect-next-reads.Learnt,
+  block-below t,
+  block.Post,
+  expect-reads.Asked,
+  expect-reads.Learnt,
+  sub-below t,
+  sub.Post,
+  close-reads.Asked,
+  close-reads.Learnt,
+) (repeats-at t) repeats.Post
+repeats-enum-known-h t c = search needs
+
+pub repeats-close-requires : (t : ℕ) → repeats-lts.Need-close-requires (
+  expect-next-reads.Asked,
+  expect-next-reads.Learnt,
+  block-below t,
+  block.Post,
+  expect-reads.Asked,
+  expect-reads.Learnt,
+  sub-below t,
+  sub.Post,
+  close-reads.Asked,
+  close-reads.Learnt,
+) (repeats-at t) repeats.Post
+repeats-close-requires t c κs =
+    let f2 = rw ((c .before .before .before .before .before .before .before .before .before .before .before .before .before .e3) .given .1) at ((c .before .before .before .before .before .before .before .before .before .before .before .before .before .before .before .before .before .block) .ensures) in
+    let m3 = expect-meets ((c .before .before .before .before .before .before .before .before .before .before .before .before .before .before .before .before .before .before .before .before .before .before .before .before .before .args) .stream .now) (ranks ((c .before .before .before .before .before .before .before .before .before .before .before .before .before .before .before .before .before .before .before .before .before .before .before .before .before .args) .ranking)) 0 (readers ((c .before .before .before .before .before .before .before .before .before .before .before .before .before .before .before .before .before .before .before .before .before .before .before .before .before .args) .stream .now) (ranks ((c .before .before .before .before .before .before .before .before .before .before .before .before .before .before .before .before .before .before .before .before .before .before .before .before .before .args) .ranking)) ((c .before .before .before .before .before .before .before .before .before .before .before .before .before .before .before .before .before .before .before .before .before .before .before .before .before .args) .g)) (hold 0 0 none) again ((c .before .before .before .before .before .before .before .before .before .before .before .before .before .e3) .given .0 .0) 20 refl refl (((c .before .before .before .before .before .before .before .before .before .before .before .before .before .before .before .before .before .before .before .before .before .before .before .before .before .pre) .1 .0) .formed) ((c .before .before .before .before .before .before .before .before .before .before .before .before .before .before .before .before .before .block) .last .1 .0) ((c .before .before .before .before .before .before .before .before .before .before .before .before .before .e3) .given .0 .1 .0) 0 (omega (arith, f2 .room)) ((c .before .before .before .before .before .before .before .before .before .before .before .expect) .result) ((c .before .before .before .before .before .before .before .before .before .before .before .expect) .ensures) in
+    let f3 = rw ((c .before .before .before .before .before .before .before .before .before .f) .given .1) at m3 in
+    let f4 = rw ((c .before .before .h) .given .1) at ((c .before .before .before .before .before .before .sub) .ensures) in
+    omega (arith, f2 .grown, f3 .grown, f4 .grown)
+
+pub repeats-same-length : (t : ℕ) → repeats-lts.Need-same-length (
+  expect-next-reads.Asked,
+  expect-next-reads.Learnt,
+  block-below t,
+  block.Post,
+  expect-reads.Asked,
+  expect-reads.Learnt,
+  sub-below t,
+  sub.Post,
+  close-reads.Asked,
+  close-reads.Learnt,
+) (repeats-at t) repeats.Post
+repeats-same-length t c = (c .before .before .before .before .before .block) .kept .1 .0
+
+pub repeats-returns-2 : (t : ℕ) → repeats-lts.Need-returns-2 (
+  expect-next-reads.Asked,
+  expect-next-reads.Learnt,
+  block-below t,
+  block.Post,
+  expect-reads.Asked,
+  expect-reads.Learnt,
+  sub-below t,
+  sub.Post,
+  close-reads.Asked,
+  close-reads.Learnt,
+) (repeats-at t) repeats.Post
+unfolding read repeatstat
+repeats-returns-2 t c =
+    let f1 = word-fine ((c .before .before .before .before .before .before .before .before .before .before .before .before .before .args) .stream .now) (ranks ((c .before .before .before .before .before .before .before .before .before .before .before .before .before .args) .ranking)) 0 (readers ((c .before .before .before .before .before .before .before .before .before .before .before .before .before .args) .stream .now) (ranks ((c .before .before .before .before .before .before .before .before .before .before .before .before .before .args) .ranking)) ((c .before .before .before .before .before .before .before .before .before .before .before .before .before .args) .g)) (hold 0 0 none) again ((c .before .before .before .before .before .before .before .before .before .before .before .before .before .args) .c) ((c .before .before .before .before .before .before .before .before .before .before .before .before .before .args) .nodes .now) (((c .before .before .before .before .before .before .before .before .before .before .before .before .before .args) .used) + 1) 0 (((c .before .before .before .before .before .before .before .before .before .before .before .before .before .pre) .1 .0) .formed) (omega (arith, ((c .before .before .before .before .before .before .before .before .before .before .before .before .before .pre) .1 .0) .room)) 16 refl refl ((sym ((c .before .before .before .before .before .before .before .before .before .before .expect-next) .ensures)) ∙ (c .before .before .before .before .before .before .before .before .d) .given .1) in
+    ap (wrap ((c .before .before .before .before .before .before .before .before .before .before .before .before .before .args) .stream .now) 8 opening (((c .before .before .before .before .before .before .before .before .before .before .before .before .before .args) .c) .place)) (past _ f1 (stop _ (rw ((c .before .e2) .given .1) at ((c .before .before .before .before .before .block) .ensures))))
+
+pub repeats-same-length-2 : (t : ℕ) → repeats-lts.Need-same-length-2 (
+  expect-next-reads.Asked,
+  expect-next-reads.Learnt,
+  block-below t,
+  block.Post,
+  expect-reads.Asked,
+  expect-reads.Learnt,
+  sub-below t,
+  sub.Post,
+  close-reads.Asked,
+  close-reads.Learnt,
+) (repeats-at t) repeats.Post
+repeats-same-length-2 t c = (c .before .before .before .before .before .before .before .before .before .block) .kept .1 .0
+
+pub repeats-returns-3 : (t : ℕ) → repeats-lts.Need-returns-3 (
+  expect-next-reads.Asked,
+  expect-next-reads.Learnt,
+  block-below t,
+  block.Post,
+  expect-reads.Asked,
+  expect-reads.Learnt,
+  sub-below t,
+  sub.Post,
+  close-reads.Asked,
+  close-reads.Learnt,
+) (repeats-at t) repeats.Post
+unfolding read repeatstat
+repeats-returns-3 t c =
+    let f1 = word-fine ((c .before .before .before .before .before .before .before .before .before .before .before .before .before .before .before .before .before .args) .stream .now) (ranks ((c .before .before .before .before .before .before .before .before .before .before .before .before .before .before .before .before .before .args) .ranking)) 0 (readers ((c .before .before .before .before .before .before .before .before .before .before .before .before .before .before .before .before .before .args) .stream .now) (ranks ((c .before .before .before .before .before .before .before .before .before .before .before .before .before .before .before .before .before .args) .ranking)) ((c .before .before .before .before .before .before .before .before .before .before .before .before .before .before .before .before .before .args) .g)) (hold 0 0 none) again ((c .before .before .before .before .before .before .before .before .before .before .before .before .before .before .before .before .before .args) .c) ((c .before .before .before .before .before .before .before .before .before .before .before .before .before .before .before .before .before .args) .nodes .now) (((c .before .before .before .before .before .before .before .before .before .before .before .before .before .before .before .before .before .args) .used) + 1) 0 (((c .before .before .before .before .before .before .before .before .before .before .before .before .before .before .before .before .before .pre) .1 .0) .formed) (omega (arith, ((c .before .before .before .before .before .before .before .before .before .before .before .before .before .before .before .before .before .pre) .1 .0) .room)) 16 refl refl ((sym ((c .before .before .before .before .before .before .before .before .before .before .before .before .before .before .expect-next) .ensures)) ∙ (c .before .before .before .before .before .before .before .before .before .before .before .before .d) .given .1) in
+    let f2 = rw ((c .before .before .before .before .before .e3) .given .1) at ((c .before .before .before .before .before .before .before .before .before .block) .ensures) in
+    let m3 = expect-meets ((c .before .before .before .before .before .before .before .before .before .before .before .before .before .before .before .before .before .args) .stream .now) (ranks ((c .before .before .before .before .before .before .before .before .before .before .before .before .before .before .before .before .before .args) .ranking)) 0 (readers ((c .before .before .before .before .before .before .before .before .before .before .before .before .before .before .before .before .before .args) .stream .now) (ranks ((c .before .before .before .before .before .before .before .before .before .before .before .before .before .before .before .before .before .args) .ranking)) ((c .before .before .before .before .before .before .before .before .before .before .before .before .before .before .before .before .before .args) .g)) (hold 0 0 none) again ((c .before .before .before .before .before .e3) .given .0 .0) 20 refl refl (((c .before .before .before .before .before .before .before .before .before .before .before .before .before .before .before .before .before .pre) .1 .0) .formed) ((c .before .before .before .before .before .before .before .before .before .block) .last .1 .0) ((c .before .before .before .before .before .e3) .given .0 .1 .0) 0 (omega (arith, f2 .room)) ((c .before .before .before .expect) .result) ((c .before .before .before .expect) .ensures) in
+    ap (wrap ((c .before .before .before .before .before .before .before .before .before .before .before .before .before .before .before .before .before .args) .stream .now) 8 opening (((c .before .before .before .before .before .before .before .before .before .before .before .before .before .before .before .before .before .args) .c) .place)) (past _ f1 (past _ f2 (stop _ (rw ((c .before .e4) .given .1) at m3))))
+
+pub repeats-same-length-3 : (t : ℕ) → repeats-lts.Need-same-length-3 (
+  expect-next-reads.Asked,
+  expect-next-reads.Learnt,
+  block-below t,
+  block.Post,
+  expect-reads.Asked,
+  expect-reads.Learnt,
+  sub-below t,
+  sub.Post,
+  close-reads.Asked,
+  close-reads.Learnt,
+) (repeats-at t) repeats.Post
+repeats-same-length-3 t c = (c .before .before .before .before .before .sub) .kept .1 .0 ∙ (c .before .before .before .before .before .before .before .before .before .before .before .before .before .before .before .before .block) .kept .1 .0
+
+pub repeats-returns-4 : (t : ℕ) → repeats-lts.Need-returns-4 (
+  expect-next-reads.Asked,
+  expect-next-reads.Learnt,
+  block-below t,
+  block.Post,
+  expect-reads.Asked,
+  expect-reads.Learnt,
+  sub-below t,
+  sub.Post,
+  close-reads.Asked,
+  close-reads.Learnt,
+) (repeats-at t) repeats.Post
+unfolding read repeatstat
+repeats-returns-4 t c =
+    let f1 = word-fine ((c .before .before .before .before .before .before .before .before .before .before .before .before .before .before .before .before .before .before .before .before .before .before .before .before .args) .stream .now) (ranks ((c .before .before .before .before .before .before .before .before .before .before .before .before .before .before .before .before .before .before .before .before .before .before .before .before .args) .ranking)) 0 (readers ((c .before .before .before .before .before .before .before .before .before .before .before .before .before .before .before .before .before .before .before .before .before .before .before .before .args) .stream .now) (ranks ((c .before .before .before .before .before .before .before .before .before .before .before .before .before .before .before .before .before .before .before .before .before .before .before .before .args) .ranking)) ((c .before .before .before .before .before .before .before .before .before .before .before .before .before .before .before .before .before .before .before .before .before .before .before .before .args) .g)) (hold 0 0 none) again ((c .before .before .before .before .before .before .before .before .before .before .before .before .before .before .before .before .before .before .before .before .before .before .before .before .args) .c) ((c .before .before .before .before .before .before .before .before .before .before .before .before .before .before .before .before .before .before .before .before .before .before .before .before .args) .nodes .now) (((c .before .before .before .before .before .before .before .before .before .before .before .before .before .before .before .before .before .before .before .before .before .before .before .before .args) .used) + 1) 0 (((c .before .before .before .before .before .before .before .before .before .before .before .before .before .before .before .before .before .before .before .before .before .before .before .before .pre) .1 .0) .formed) (omega (arith, ((c .before .before .before .before .before .before .before .before .before .before .before .before .before .before .before .before .before .before .before .before .before .before .before .before .pre) .1 .0) .room)) 16 refl refl ((sym ((c .before .before .before .before .before .before .before .before .before .before .before .before .before .before .before .before .before .before .before .before .before .expect-next) .ensures)) ∙ (c .before .before .before .before .before .before .before .before .before .before .before .before .before .before .before .before .before .before .before .d) .given .1) in
+    let f2 = rw ((c .before .before .before .before .before .before .before .before .before .before .before .before .e3) .given .1) at ((c .before .before .before .before .before .before .before .before .before .before .before .before .before .before .before .before .block) .ensures) in
+    let m3 = expect-meets ((c .before .before .before .before .before .before .before .before .before .before .before .before .before .before .before .before .before .before .before .before .before .before .before .before .args) .stream .now) (ranks ((c .before .before .before .before .before .before .before .before .before .before .before .before .before .before .before .before .before .before .before .before .before .before .before .before .args) .ranking)) 0 (readers ((c .before .before .before .before .before .before .before .before .before .before .before .before .before .before .before .before .before .before .before .before .before .before .before .before .args) .stream .now) (ranks ((c .before .before .before .before .before .before .before .before .before .before .before .before .before .before .before .before .before .before .before .before .before .before .before .before .args) .ranking)) ((c .before .before .before .before .before .before .before .before .before .before .before .before .before .before .before .before .before .before .before .before .before .before .before .before .args) .g)) (hold 0 0 none) again ((c .before .before .before .before .before .before .before .before .before .before .before .before .e3) .given .0 .0) 20 refl refl (((c .before .before .before .before .before .before .before .before .before .before .before .before .before .before .before .before .before .before .before .before .before .before .before .before .pre) .1 .0) .formed) ((c .before .before .before .before .before .before .before .before .before .before .before .before .before .before .before .before .block) .last .1 .0) ((c .before .before .before .before .before .before .before .before .before .before .before .before .e3) .given .0 .1 .0) 0 (omega (arith, f2 .room)) ((c .before .before .before .before .before .before .before .before .before .before .expect) .result) ((c .before .before .before .before .before .before .before .before .before .before .expect) .ensures) in
+    let f3 = rw ((c .before .before .before .before .before .before .before .before .f) .given .1) at m3 in
+    ap (wrap ((c .before .before .before .before .before .before .before .before .before .before .before .before .before .before .before .before .before .before .before .before .before .before .before .before .args) .stream .now) 8 opening (((c .before .before .before .before .before .before .before .before .before .before .before .before .before .before .before .before .before .before .before .before .before .before .before .before .args) .c) .place)) (past _ f1 (past _ f2 (past _ f3 (rw ((c .before .e5) .given .1) at ((c .before .before .before .before .before .sub) .ensures)))))
+
+pub repeats-same-length-4 : (t : ℕ) → repeats-lts.Need-same-length-4 (
+  expect-next-reads.Asked,
+  expect-next-reads.Learnt,
+  block-below t,
+  block.Post,
+  expect-reads.Asked,
+  expect-reads.Learnt,
+  sub-below t,
+  sub.Post,
+  close-reads.Asked,
+  close-reads.Learnt,
+) (repeats-at t) repeats.Post
+repeats-same-length-4 t c = (c .before .before .close) .kept .0 ∙ (c .before .before .before .before .before .before .before .before .before .sub) .kept .1 .0 ∙ (c .before .before .before .before .before .before .before .before .before .before .before .before .before .before .before .before .before .before .before .before .block) .kept .1 .0
+
+pub repeats-returns-5 : (t : ℕ) → repeats-lts.Need-returns-5 (
+  expect-next-reads.Asked,
+  expect-next-reads.Learnt,
+  block-below t,
+  block.Post,
+  expect-reads.Asked,
+  expect-reads.Learnt,
+  sub-below t,
+  sub.Post,
+  close-reads.Asked,
+  close-reads.Learnt,
+) (repeats-at t) repeats.Post
+unfolding read repeatstat
+repeats-returns-5 t c =
+    let f1 = word-fine ((c .before .before .before .before .before .before .before .before .before .before .before .before .before .before .before .before .before .before .before .before .before .before .before .before .before .before .before .before .args) .stream .now) (ranks ((c .before .before .before .before .before .before .before .before .before .before .before .before .before .before .before .before .before .before .before .before .before .before .before .before .before .before .before .before .args) .ranking)) 0 (readers ((c .before .before .before .before .before .before .before .before .before .before .before .before .before .before .before .before .before .before .before .before .before .before .before .before .before .before .before .before .args) .stream .now) (ranks ((c .before .before .before .before .before .before .before .before .before .before .before .before .before .before .before .before .before .before .before .before .before .before .before .before .before .before .before .before .args) .ranking)) ((c .before .before .before .before .before .before .before .before .before .before .before .before .before .before .before .before .before .before .before .before .before .before .before .before .before .before .before .before .args) .g)) (hold 0 0 none) again ((c .before .before .before .before .before .before .before .before .before .before .before .before .before .before .before .before .before .before .before .before .before .before .before .before .before .before .before .before .args) .c) ((c .before .before .before .before .before .before .before .before .before .before .before .before .before .before .before .before .before .before .before .before .before .before .before .before .before .before .before .before .args) .nodes .now) (((c .before .before .before .before .before .before .before .before .before .before .before .before .before .before .before .before .before .before .before .before .before .before .before .before .before .before .before .before .args) .used) + 1) 0 (((c .before .before .before .before .before .before .before .before .before .before .before .before .before .before .before .before .before .before .before .before .before .before .before .before .before .before .before .before .pre) .1 .0) .formed) (omega (arith, ((c .before .before .before .before .before .before .before .before .before .before .before .before .before .before .before .before .before .before .before .before .before .before .before .before .before .before .before .before .pre) .1 .0) .room)) 16 refl refl ((sym ((c .before .before .before .before .before .before .before .before .before .before .before .before .before .before .before .before .before .before .before .before .before .before .before .before .before .expect-next) .ensures)) ∙ (c .before .before .before .before .before .before .before .before .before .before .before .before .before .before .before .before .before .before .before .before .before .before .before .d) .given .1) in
+    let f2 = rw ((c .before .before .before .before .before .before .before .before .before .before .before .before .before .before .before .before .e3) .given .1) at ((c .before .before .before .before .before .before .before .before .before .before .before .before .before .before .before .before .before .before .before .before .block) .ensures) in
+    let m3 = expect-meets ((c .before .before .before .before .before .before .before .before .before .before .before .before .before .before .before .before .before .before .before .before .before .before .before .before .before .before .before .before .args) .stream .now) (ranks ((c .before .before .before .before .before .before .before .before .before .before .before .before .before .before .before .before .before .before .before .before .before .before .before .before .before .before .before .before .args) .ranking)) 0 (readers ((c .before .before .before .before .before .before .before .before .before .before .before .before .before .before .before .before .before .before .before .before .before .before .before .before .before .before .before .before .args) .stream .now) (ranks ((c .before .before .before .before .before .before .before .before .before .before .before .before .before .before .before .before .before .before .before .before .before .before .before .before .before .before .before .before .args) .ranking)) ((c .before .before .before .before .before .before .before .before .before .before .before .before .before .before .before .before .before .before .before .before .before .before .before .before .before .before .before .before .args) .g)) (hold 0 0 none) again ((c .before .before .before .before .before .before .before .before .before .before .before .before .before .before .before .before .e3) .given .0 .0) 20 refl refl (((c .before .before .before .before .before .before .before .before .before .before .before .before .before .before .before .before .before .before .before .before .before .before .before .before .before .before .before .before .pre) .1 .0) .formed) ((c .before .before .before .before .before .before .before .before .before .before .before .before .before .before .before .before .before .before .before .before .block) .last .1 .0) ((c .before .before .before .before .before .before .before .before .before .before .before .before .before .before .before .before .e3) .given .0 .1 .0) 0 (omega (arith, f2 .room)) ((c .before .before .before .before .before .before .before .before .before .before .before .before .before .before .expect) .result) ((c .before .before .before .before .before .before .before .before .before .before .before .before .before .before .expect) .ensures) in
+    let f3 = rw ((c .before .before .before .before .before .before .before .before .before .before .before .before .f) .given .1) at m3 in
+    let f4 = rw ((c .before .before .before .before .before .h) .given .1) at ((c .before .before .before .before .before .before .before .before .before .sub) .ensures) in
+    rw ((c .before .before .close) .ensures .0) (over 8 opening (((c .before .before .before .before .before .before .before .before .before .before .before .before .before .before .before .before .before .before .before .before .before .before .before .before .before .before .before .before .args) .c) .place) ((c .before .before .before .before .before .before .before .before .before .before .before .before .before .before .before .before .before .before .before .before .before .before .before .before .before .before .before .before .args) .line) (both _ f1 (both _ f2 (both _ f3 f4 (omega arith)) (omega arith)) (omega arith)) ((c .before .before .close) .ensures .1) ((c .before .before .before .before .before .before .before .before .before .before .before .before .before .before .before .before .before .before .before .before .before .before .before .before .before .before .before .before .pre) .1 .1))

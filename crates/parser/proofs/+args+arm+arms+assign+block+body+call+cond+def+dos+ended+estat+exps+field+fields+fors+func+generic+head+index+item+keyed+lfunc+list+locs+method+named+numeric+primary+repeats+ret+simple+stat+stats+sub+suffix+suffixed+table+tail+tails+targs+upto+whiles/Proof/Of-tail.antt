@@ -1,0 +1,180 @@
+use borrow.Author.Needs.{needs}
+use Prim.Native.Nat.{ℕ}
+use Rattle.parser.proofs.args.Reads as args
+use Rattle.parser.proofs.exps.Reads as exps
+use Rattle.parser.proofs.sub.Reads as sub
+use Rattle.parser.proofs.tail.Reads as tail
+use Rattle.parser.proofs.+args+arm+arms+assign+block+body+call+cond+def+dos+ended+estat+exps+field+fields+fors+func+generic+head+index+item+keyed+lfunc+list+locs+method+named+numeric+primary+repeats+ret+simple+stat+stats+sub+suffix+suffixed+table+tail+tails+targs+upto+whiles.Lts-tail as tail-lts
+use Rattle.parser.proofs.close.Reads as close-reads
+use Rattle.stream.proofs.reader.take_next.Reads as take-next-reads
+use Rattle.parser.proofs.+args+arm+arms+assign+block+body+call+cond+def+dos+ended+estat+exps+field+fields+fors+func+generic+head+index+item+keyed+lfunc+list+locs+method+named+numeric+primary+repeats+ret+simple+stat+stats+sub+suffix+suffixed+table+tail+tails+targs+upto+whiles.{}
+use Rattle.parser.proofs.+args+arm+arms+assign+block+body+call+cond+def+dos+ended+estat+exps+field+fields+fors+func+generic+head+index+item+keyed+lfunc+list+locs+method+named+numeric+primary+repeats+ret+simple+stat+stats+sub+suffix+suffixed+table+tail+tails+targs+upto+whiles.Proof.Levels.{sub-below, tail-at}
+use mathlib.Core.Path.{_≡_, refl, sym, ap, _∙_}
+use Prim.Native.Nat.{ℕ, _+_, _-_}
+use native.Mathlib.Omega.{arith}
+use Rattle.operators.specs.Ranks.{ranks}
+use Rattle.tree.specs.Forest.{none}
+use Rattle.grammar.specs.Reading.{read, hold, wrap}
+use Rattle.grammar.specs.Levels.{readers}
+use Rattle.grammar.specs.Term.{unlined}
+use Rattle.grammar.specs.Term.{operand}
+use Rattle.parser.specs.Contract.{again}
+use Rattle.stream.proofs.Words.{few}
+use Rattle.parser.proofs.Steps.{took-next}
+use Rattle.parser.proofs.Kit.{alter, revalue, kept, weighs, stop, past, both, over}
+use Rattle.parser.proofs.Tokens.{ready-after, any-fail, any-fine}
+use Rattle.stream.specs.Words.{kind}
+use Rattle.operators.specs.Ranks.{code}
+
+pub tail-take-next-requires : (t : ℕ) → tail-lts.Need-take-next-requires (
+  take-next-reads.Asked,
+  take-next-reads.Learnt,
+  sub-below t,
+  sub.Post,
+  close-reads.Asked,
+  close-reads.Learnt,
+) (tail-at t) tail.Post
+tail-take-next-requires t c κs = search needs
+
+pub tail-enum-known-e : (t : ℕ) → tail-lts.Need-enum-known-e (
+  take-next-reads.Asked,
+  take-next-reads.Learnt,
+  sub-below t,
+  sub.Post,
+  close-reads.Asked,
+  close-reads.Learnt,
+) (tail-at t) tail.Post
+tail-enum-known-e t c = search needs
+
+pub tail-enum-known-d : (t : ℕ) → tail-lts.Need-enum-known-d (
+  take-next-reads.Asked,
+  take-next-reads.Learnt,
+  sub-below t,
+  sub.Post,
+  close-reads.Asked,
+  close-reads.Learnt,
+) (tail-at t) tail.Post
+tail-enum-known-d t c = search needs
+
+pub tail-add-sub : (t : ℕ) → tail-lts.Need-add-sub (
+  take-next-reads.Asked,
+  take-next-reads.Learnt,
+  sub-below t,
+  sub.Post,
+  close-reads.Asked,
+  close-reads.Learnt,
+) (tail-at t) tail.Post
+tail-add-sub t c = let b = few ((c .before .before .before .before .before .before .before .args) .stream .now) (((c .before .before .before .before .before .before .before .pre) .1 .0) .formed) in omega (arith, ((c .before .before .before .before .before .before .before .pre) .1 .0) .room, ((c .before .before .before .before .before .before .before .pre) .1 .0) .at)
+
+pub tail-sub-requires : (t : ℕ) → tail-lts.Need-sub-requires (
+  take-next-reads.Asked,
+  take-next-reads.Learnt,
+  sub-below t,
+  sub.Post,
+  close-reads.Asked,
+  close-reads.Learnt,
+) (tail-at t) tail.Post
+tail-sub-requires t c κs = (omega (arith, (c .before .before .before .before .before .before .before .pre) .0), ready-after (((c .before .before .before .before .before .before .before .args) .used) + 1) 1 (((c .before .before .before .before .before .before .before .pre) .1 .0) .formed) (took-next ((c .before .before .before .before .before .before .before .args) .stream .now) ((c .before .before .before .before .before .before .before .args) .c) ((sym ((c .before .before .before .before .take-next) .ensures)) ∙ (c .before .before .d) .given .1)) (omega (arith, ((c .before .before .before .before .before .before .before .pre) .1 .0) .room)))
+
+pub tail-enum-known-e-2 : (t : ℕ) → tail-lts.Need-enum-known-e-2 (
+  take-next-reads.Asked,
+  take-next-reads.Learnt,
+  sub-below t,
+  sub.Post,
+  close-reads.Asked,
+  close-reads.Learnt,
+) (tail-at t) tail.Post
+tail-enum-known-e-2 t c = search needs
+
+pub tail-enum-known-e-3 : (t : ℕ) → tail-lts.Need-enum-known-e-3 (
+  take-next-reads.Asked,
+  take-next-reads.Learnt,
+  sub-below t,
+  sub.Post,
+  close-reads.Asked,
+  close-reads.Learnt,
+) (tail-at t) tail.Post
+tail-enum-known-e-3 t c = search needs
+
+pub tail-close-requires : (t : ℕ) → tail-lts.Need-close-requires (
+  take-next-reads.Asked,
+  take-next-reads.Learnt,
+  sub-below t,
+  sub.Post,
+  close-reads.Asked,
+  close-reads.Learnt,
+) (tail-at t) tail.Post
+tail-close-requires t c κs =
+    let f3 = rw ((c .before .before .e3) .given .1) at ((c .before .before .before .before .before .before .sub) .ensures) in
+    omega (arith, f3 .grown)
+
+pub tail-returns : (t : ℕ) → tail-lts.Need-returns (
+  take-next-reads.Asked,
+  take-next-reads.Learnt,
+  sub-below t,
+  sub.Post,
+  close-reads.Asked,
+  close-reads.Learnt,
+) (tail-at t) tail.Post
+unfolding read
+tail-returns t c = ap (wrap ((c .before .before .before .before .before .before .args) .stream .now) 19 unlined (((c .before .before .before .before .before .before .args) .c) .place)) (stop _ (any-fail ((c .before .before .before .before .before .before .args) .stream .now) (ranks ((c .before .before .before .before .before .before .args) .ranking)) 0 (readers ((c .before .before .before .before .before .before .args) .stream .now) (ranks ((c .before .before .before .before .before .before .args) .ranking)) ((c .before .before .before .before .before .before .args) .g)) (hold 0 0 none) again ((c .before .before .before .before .before .before .args) .c) ((sym ((c .before .before .before .take-next) .ensures)) ∙ (c .before .e) .given .1)))
+
+pub tail-same-length : (t : ℕ) → tail-lts.Need-same-length (
+  take-next-reads.Asked,
+  take-next-reads.Learnt,
+  sub-below t,
+  sub.Post,
+  close-reads.Asked,
+  close-reads.Learnt,
+) (tail-at t) tail.Post
+tail-same-length t c = (c .before .before .before .before .before .sub) .kept .1 .0
+
+pub tail-returns-2 : (t : ℕ) → tail-lts.Need-returns-2 (
+  take-next-reads.Asked,
+  take-next-reads.Learnt,
+  sub-below t,
+  sub.Post,
+  close-reads.Asked,
+  close-reads.Learnt,
+) (tail-at t) tail.Post
+unfolding read
+tail-returns-2 t c =
+    let a = took-next ((c .before .before .before .before .before .before .before .before .before .before .before .before .before .args) .stream .now) ((c .before .before .before .before .before .before .before .before .before .before .before .before .before .args) .c) ((sym ((c .before .before .before .before .before .before .before .before .before .before .take-next) .ensures)) ∙ (c .before .before .before .before .before .before .before .before .d) .given .1) in
+    let f1 = any-fine ((c .before .before .before .before .before .before .before .before .before .before .before .before .before .args) .stream .now) (ranks ((c .before .before .before .before .before .before .before .before .before .before .before .before .before .args) .ranking)) 0 (readers ((c .before .before .before .before .before .before .before .before .before .before .before .before .before .args) .stream .now) (ranks ((c .before .before .before .before .before .before .before .before .before .before .before .before .before .args) .ranking)) ((c .before .before .before .before .before .before .before .before .before .before .before .before .before .args) .g)) (hold 0 0 none) again ((c .before .before .before .before .before .before .before .before .before .before .before .before .before .args) .c) ((c .before .before .before .before .before .before .before .before .before .before .before .before .before .args) .nodes .now) (((c .before .before .before .before .before .before .before .before .before .before .before .before .before .args) .used) + 1) 1 (((c .before .before .before .before .before .before .before .before .before .before .before .before .before .pre) .1 .0) .formed) (omega (arith, ((c .before .before .before .before .before .before .before .before .before .before .before .before .before .pre) .1 .0) .room)) ((sym ((c .before .before .before .before .before .before .before .before .before .before .take-next) .ensures)) ∙ (c .before .before .before .before .before .before .before .before .d) .given .1) in
+    let p : ((c .before .before .before .before .before .before .before .before .before .before .before .before .before .args) .c) .place ≡ ((c .before .before .before .before .before .before .before .before .d) .given .0 .1 .0) .place - 1 = omega (arith, a .place) in
+    let q = (c .before .before .before .before .before .before .before .before .before .before .before .before .before .pre) .1 .1 ∙ ap (λ (z : ℕ). ranks ((c .before .before .before .before .before .before .before .before .before .before .before .before .before .args) .ranking) .right (kind ((c .before .before .before .before .before .before .before .before .before .before .before .before .before .args) .stream .now) z)) p in
+    let x = ap (λ (z : ℕ). readers ((c .before .before .before .before .before .before .before .before .before .before .before .before .before .args) .stream .now) (ranks ((c .before .before .before .before .before .before .before .before .before .before .before .before .before .args) .ranking)) ((c .before .before .before .before .before .before .before .before .before .before .before .before .before .args) .g) .exps z (((c .before .before .before .before .before .before .before .before .d) .given .0 .1 .0) .place) (((c .before .before .before .before .before .before .before .before .d) .given .0 .1 .0) .mark)) (sym q) in
+    let f2 = weighs {s = ((c .before .before .before .before .before .before .before .before .before .before .before .before .before .args) .stream .now)} ((c .before .before .before .before .before .before .before .before .before .before .before .before .before .args) .nodes .now) (((c .before .before .before .before .before .before .before .before .before .before .before .before .before .args) .used) + 1) 1 (code (kind ((c .before .before .before .before .before .before .before .before .before .before .before .before .before .args) .stream .now) (((c .before .before .before .before .before .before .before .before .d) .given .0 .1 .0) .place - 1))) ((c .before .before .before .before .before .before .before .before .d) .given .0 .1 .0) (f1 .at) (f1 .room) in
+    let y = rw ((c .before .e2) .given .1) at ((c .before .before .before .before .before .sub) .ensures) in
+    ap (wrap ((c .before .before .before .before .before .before .before .before .before .before .before .before .before .args) .stream .now) 19 unlined (((c .before .before .before .before .before .before .before .before .before .before .before .before .before .args) .c) .place)) (past _ f1 (past (read ((c .before .before .before .before .before .before .before .before .before .before .before .before .before .args) .stream .now) (ranks ((c .before .before .before .before .before .before .before .before .before .before .before .before .before .args) .ranking)) 0 (readers ((c .before .before .before .before .before .before .before .before .before .before .before .before .before .args) .stream .now) (ranks ((c .before .before .before .before .before .before .before .before .before .before .before .before .before .args) .ranking)) ((c .before .before .before .before .before .before .before .before .before .before .before .before .before .args) .g)) (hold 0 0 none) operand again) f2 (x ∙ y)))
+
+pub tail-same-length-2 : (t : ℕ) → tail-lts.Need-same-length-2 (
+  take-next-reads.Asked,
+  take-next-reads.Learnt,
+  sub-below t,
+  sub.Post,
+  close-reads.Asked,
+  close-reads.Learnt,
+) (tail-at t) tail.Post
+tail-same-length-2 t c = (c .before .before .close) .kept .0 ∙ (c .before .before .before .before .before .before .before .before .before .sub) .kept .1 .0
+
+pub tail-returns-3 : (t : ℕ) → tail-lts.Need-returns-3 (
+  take-next-reads.Asked,
+  take-next-reads.Learnt,
+  sub-below t,
+  sub.Post,
+  close-reads.Asked,
+  close-reads.Learnt,
+) (tail-at t) tail.Post
+unfolding read
+tail-returns-3 t c =
+    let a = took-next ((c .before .before .before .before .before .before .before .before .before .before .before .before .before .before .before .before .before .args) .stream .now) ((c .before .before .before .before .before .before .before .before .before .before .before .before .before .before .before .before .before .args) .c) ((sym ((c .before .before .before .before .before .before .before .before .before .before .before .before .before .before .take-next) .ensures)) ∙ (c .before .before .before .before .before .before .before .before .before .before .before .before .d) .given .1) in
+    let f1 = any-fine ((c .before .before .before .before .before .before .before .before .before .before .before .before .before .before .before .before .before .args) .stream .now) (ranks ((c .before .before .before .before .before .before .before .before .before .before .before .before .before .before .before .before .before .args) .ranking)) 0 (readers ((c .before .before .before .before .before .before .before .before .before .before .before .before .before .before .before .before .before .args) .stream .now) (ranks ((c .before .before .before .before .before .before .before .before .before .before .before .before .before .before .before .before .before .args) .ranking)) ((c .before .before .before .before .before .before .before .before .before .before .before .before .before .before .before .before .before .args) .g)) (hold 0 0 none) again ((c .before .before .before .before .before .before .before .before .before .before .before .before .before .before .before .before .before .args) .c) ((c .before .before .before .before .before .before .before .before .before .before .before .before .before .before .before .before .before .args) .nodes .now) (((c .before .before .before .before .before .before .before .before .before .before .before .before .before .before .before .before .before .args) .used) + 1) 1 (((c .before .before .before .before .before .before .before .before .before .before .before .before .before .before .before .before .before .pre) .1 .0) .formed) (omega (arith, ((c .before .before .before .before .before .before .before .before .before .before .before .before .before .before .before .before .before .pre) .1 .0) .room)) ((sym ((c .before .before .before .before .before .before .before .before .before .before .before .before .before .before .take-next) .ensures)) ∙ (c .before .before .before .before .before .before .before .before .before .before .before .before .d) .given .1) in
+    let p : ((c .before .before .before .before .before .before .before .before .before .before .before .before .before .before .before .before .before .args) .c) .place ≡ ((c .before .before .before .before .before .before .before .before .before .before .before .before .d) .given .0 .1 .0) .place - 1 = omega (arith, a .place) in
+    let q = (c .before .before .before .before .before .before .before .before .before .before .before .before .before .before .before .before .before .pre) .1 .1 ∙ ap (λ (z : ℕ). ranks ((c .before .before .before .before .before .before .before .before .before .before .before .before .before .before .before .before .before .args) .ranking) .right (kind ((c .before .before .before .before .before .before .before .before .before .before .before .before .before .before .before .before .before .args) .stream .now) z)) p in
+    let x = ap (λ (z : ℕ). readers ((c .before .before .before .before .before .before .before .before .before .before .before .before .before .before .before .before .before .args) .stream .now) (ranks ((c .before .before .before .before .before .before .before .before .before .before .before .before .before .before .before .before .before .args) .ranking)) ((c .before .before .before .before .before .before .before .before .before .before .before .before .before .before .before .before .before .args) .g) .exps z (((c .before .before .before .before .before .before .before .before .before .before .before .before .d) .given .0 .1 .0) .place) (((c .before .before .before .before .before .before .before .before .before .before .before .before .d) .given .0 .1 .0) .mark)) (sym q) in
+    let f2 = weighs {s = ((c .before .before .before .before .before .before .before .before .before .before .before .before .before .before .before .before .before .args) .stream .now)} ((c .before .before .before .before .before .before .before .before .before .before .before .before .before .before .before .before .before .args) .nodes .now) (((c .before .before .before .before .before .before .before .before .before .before .before .before .before .before .before .before .before .args) .used) + 1) 1 (code (kind ((c .before .before .before .before .before .before .before .before .before .before .before .before .before .before .before .before .before .args) .stream .now) (((c .before .before .before .before .before .before .before .before .before .before .before .before .d) .given .0 .1 .0) .place - 1))) ((c .before .before .before .before .before .before .before .before .before .before .before .before .d) .given .0 .1 .0) (f1 .at) (f1 .room) in
+    let f3 = rw ((c .before .before .before .before .before .e3) .given .1) at ((c .before .before .before .before .before .before .before .before .before .sub) .ensures) in
+    let o = (c .before .before .before .before .before .before .before .before .before .before .before .before .before .before .before .before .before .pre) .1 .2 ∙ ap (λ (z : ℕ). code (kind ((c .before .before .before .before .before .before .before .before .before .before .before .before .before .before .before .before .before .args) .stream .now) z)) p in
+    let f23 = both (read ((c .before .before .before .before .before .before .before .before .before .before .before .before .before .before .before .before .before .args) .stream .now) (ranks ((c .before .before .before .before .before .before .before .before .before .before .before .before .before .before .before .before .before .args) .ranking)) 0 (readers ((c .before .before .before .before .before .before .before .before .before .before .before .before .before .before .before .before .before .args) .stream .now) (ranks ((c .before .before .before .before .before .before .before .before .before .before .before .before .before .before .before .before .before .args) .ranking)) ((c .before .before .before .before .before .before .before .before .before .before .before .before .before .before .before .before .before .args) .g)) (hold 0 0 none) operand again) f2 (alter x f3) (omega arith) in
+    rw ((c .before .before .close) .ensures .0) (over 19 unlined (((c .before .before .before .before .before .before .before .before .before .before .before .before .before .before .before .before .before .args) .c) .place) 0 (revalue (omega (arith, o)) (both _ f1 f23 (omega arith))) ((c .before .before .close) .ensures .1) refl)

@@ -1,0 +1,12 @@
+pub mod Steps
+pub mod Kit
+pub mod Tokens
+pub mod Looks
+pub mod Grouped
+pub mod Weights
+pub mod Moved
+pub mod Shapes
+pub mod Heads
+pub mod Tags
+pub mod Whole
+pub mod Decided
