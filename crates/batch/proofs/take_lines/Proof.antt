@@ -1,0 +1,58 @@
+use borrow.Author.Needs.{needs}
+use mathlib.Core.Path.{_≡_, refl}
+use Prim.Native.Nat.{_+_, _-_, _≤_}
+use native.Mathlib.Omega.{arith}
+use lib.ListN.{length}
+use Rattle.batch.proofs.take_lines.Statement.{statement}
+use Rattle.batch.proofs.take_lines.Tie as tie
+use Rattle.batch.proofs.take_lines.Reads as reads
+use Rattle.batch.proofs.take_lines.Lts as lts
+use Rattle.batch.proofs.take_line.Reads as take-line-reads
+
+abbrev Inv-loop : tie.InvT-loop
+Inv-loop stream₀ nodes₀ records text n r₀ left₀ at₀ stream nodes r left at = (length stream ≡ 4100) × (r ≤ 1025) × (at + left ≡ n) × (n ≤ length text) × (length stream ≡ length stream₀)
+
+abbrev μ-loop : tie.MeasureT-loop
+μ-loop stream₀ nodes₀ records text n r₀ left₀ at₀ stream nodes r left at = left
+
+-- src/main.rt:201:5
+loop-holds : tie.Need-loop-holds Inv-loop μ-loop
+loop-holds c = ((c .before .before .pre) .0, (c .before .before .pre) .1, omega arith, (c .before .before .pre) .2, refl)
+
+-- src/main.rt:202:9
+take-line-requires : tie.Need-take-line-requires Inv-loop μ-loop
+take-line-requires c κs = search needs
+
+-- src/main.rt:203:9
+add-at : tie.Need-add-at Inv-loop μ-loop
+add-at c = search needs
+
+-- src/main.rt:201:5
+loop-less : tie.Need-loop-less Inv-loop μ-loop
+loop-less c = search needs
+
+-- src/main.rt:201:5
+loop-again : tie.Need-loop-again Inv-loop μ-loop
+loop-again c = search needs
+
+-- src/main.rt:194:1
+same-length : tie.Need-same-length Inv-loop μ-loop
+same-length c = search needs
+
+-- src/main.rt:194:1
+returns : tie.Need-returns Inv-loop μ-loop
+returns c = search needs
+
+pub take-lines-spec : {M : Type 1} → statement M
+take-lines-spec =
+    tie.close
+    (tie.spec
+    Inv-loop
+    μ-loop
+    loop-holds
+    take-line-requires
+    add-at
+    loop-less
+    loop-again
+    same-length
+    returns)
