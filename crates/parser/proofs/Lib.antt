@@ -1,12 +1,11 @@
 pub mod Steps
+pub mod Among
 pub mod Kit
 pub mod Tokens
 pub mod Looks
-pub mod Grouped
+pub mod Around
 pub mod Weights
-pub mod Moved
-pub mod Shapes
 pub mod Heads
-pub mod Tags
+pub mod Suffixes
 pub mod Whole
 pub mod Decided

@@ -1,16 +1,16 @@
--- Looks made twice, and productions read in another surrounding. Assumes nothing.
+-- Looks: made twice they see the same; one token decides between several productions; taking is getting, and then taking; and what was
+-- expected, as the descent asks for it. Assumes nothing.
 use mathlib.Core.Path.{_≡_, refl, sym, ap, _∙_, subst}
 use mathlib.Core.List.{List, [], _∷_}
-use mathlib.Core.Bool.{Bool, true, false, _||_}
+use mathlib.Core.Bool.{Bool, true, false}
 use mathlib.Core.Logic.{by-cases}
-use Prim.Native.Nat.{ℕ, zero, suc, _+_, _*_, _-_, _≤_, max, min}
+use Prim.Native.Nat.{ℕ, _+_, _*_, _≤_, max, min}
 use native.Mathlib.Decide.{ℕ-discrete}
 use native.Mathlib.Nat.{add-zero}
 use native.Mathlib.Omega.{arith}
-use borrow.Author.Tests.{eq-eqb, ne-eqb}
+use borrow.Author.Tests.{ne-eqb}
 use lib.Dec.{eqb}
-use lib.ListN.{length}
-use Rattle.stream.specs.Words.{records, kind, payload, line}
+use Rattle.stream.specs.Words.{records, kind}
 use Rattle.stream.specs.Formed.{Formed}
 use Rattle.stream.specs.Reader.{reached, readAhead, tokenAt, passed, expecting, getNext, takeNext, expectNext, lookAhead}
 use Rattle.stream.specs.declared.reader.Cursor.{Cursor}
@@ -20,44 +20,36 @@ use Rattle.stream.specs.declared.reader.Next.{Next}
 use Rattle.stream.specs.declared.reader.Next.the-variants.{Took, Fail}
 use Rattle.stream.specs.declared.reader.Look.the-variants.{Seen, End}
 use Rattle.stream.proofs.Reading.{get-end, get-token, take-end, take-token, look-end, look-token}
-use Rattle.operators.specs.Ranks.{Ranks, ranks}
+use Rattle.operators.specs.Ranks.{Ranks}
 use Rattle.operators.specs.declared.Ranking.{Ranking}
-use Rattle.tree.specs.Forest.{Forest, none}
+use Rattle.tree.specs.Forest.{none}
 use Rattle.grammar.specs.Member.{member}
-use Rattle.grammar.specs.Term.{Term, refuse}
-use Rattle.grammar.specs.Reading.{Out, fine, fail, Reader, Readers, Held, hold, then, leads, loop, read}
-use Rattle.grammar.specs.Productions.{word, expression, statement, ifstat, whilestat, dostat, forstat, repeatstat, functionstat, localfunction, localstat, label, breakstat, gotostat, exprstat}
-use Rattle.grammar.specs.Productions.{explist, block, retstat, funcbody, parlist, suffixed, suffix, primary, args, table, field}
-use Rattle.grammar.specs.Levels.{readers}
-use Rattle.grammar.proofs.Forward.{wrong}
+use Rattle.grammar.specs.Term.{Term, next, any, _⨾_, on, refuse}
+use Rattle.grammar.specs.Reading.{Out, fine, fail, Reader, Readers, Held, then, ended, read}
+use Rattle.grammar.specs.Productions.{word, look}
 use Rattle.grammar.proofs.Complete.{no-case}
-use Rattle.grammar.proofs.Stable.{stable, settle}
-use Rattle.parser.specs.Contract.{Fine, Meets, Sums, under, says, again, stepped, counting}
+use Rattle.parser.specs.Contract.{Fine, Meets, Sums, says, stepped, counting}
 use Rattle.parser.specs.declared.Step.{Step}
-use Rattle.parser.specs.declared.Step.the-variants as Step·
 use Rattle.parser.specs.declared.Sum.{Sum}
-use Rattle.parser.specs.declared.Sum.the-variants as Sum·
-use Rattle.parser.proofs.Steps.{Got, got, saw, ran-out, took-next}
-use Rattle.parser.proofs.Kit.{add-none, both, past, revalue}
+use Rattle.parser.proofs.Among.{Unlike, unlike, other}
+use Rattle.parser.proofs.Steps.{got, saw, ran-out, got-line, get-place, took-next, next-fail, next-is}
+use Rattle.parser.proofs.Kit.{alter, lower, revalue, Going, fails, ends}
 use Rattle.parser.proofs.Tokens.{word-fail, word-fine}
 
 module _ (s : List ℕ) where
-  twice : (c : Cursor) (n : ℕ) → readAhead s (readAhead s c n) n ≡ readAhead s c n
-  twice c n = ap (λ (z : ℕ). record { place = c .place; mark = z }) (max-twice (c .mark) (min (c .place + (n + 1)) (records s)))
+  reached-twice : (m p n : ℕ) → reached s (reached s m p n) p n ≡ reached s m p n
+  reached-twice m p n = max-twice m (min (p + n) (records s))
     where
       max-twice : (a b : ℕ) → max (max a b) b ≡ max a b
       max-twice a b = omega arith
 
-  -- a token that was got is got again
+  twice : (c : Cursor) (n : ℕ) → readAhead s (readAhead s c n) n ≡ readAhead s c n
+  twice c n = ap (λ (z : ℕ). record { place = c .place; mark = z }) (reached-twice (c .mark) (c .place) (n + 1))
+
+  -- what was got is got again; what was seen is seen again; and so is the end
   pub got-again : (c : Cursor) {t : Token} {d : Cursor} → getNext s c ≡ Took t d → getNext s d ≡ Took t d
   got-again c {t} {d} x =
       let g = got s c x in
-      subst (λ (z : Cursor). getNext s z ≡ Took t z) (sym (g .cursor))
-      (get-token s (readAhead s c 1) (g .real) ∙ ap (λ (z : Token). Took z (readAhead s (readAhead s c 1) 1)) (sym (g .token)) ∙ ap (Took t) (twice c 1))
-
-  pub saw-again : (c : Cursor) {t : Token} {d : Cursor} → lookAhead s c 0 ≡ Seen t d → getNext s d ≡ Took t d
-  saw-again c {t} {d} x =
-      let g = saw s c x in
       subst (λ (z : Cursor). getNext s z ≡ Took t z) (sym (g .cursor))
       (get-token s (readAhead s c 1) (g .real) ∙ ap (λ (z : Token). Took z (readAhead s (readAhead s c 1) 1)) (sym (g .token)) ∙ ap (Took t) (twice c 1))
 
@@ -72,6 +64,21 @@ module _ (s : List ℕ) where
   end-again c {d} x =
       let g = ran-out s c x in
       subst (λ (z : Cursor). lookAhead s z 0 ≡ End z) (sym (g .cursor)) (look-end s (readAhead s c 1) 0 (ap (kind s) (add-zero (c .place)) ∙ g .end) ∙ ap End (twice c 1))
+
+  -- a production that takes the next token, or chooses by it, reads the same after a look at it
+  module _ (rank : Ranks) (limit : ℕ) (R : Readers) (h : Held) (A : Reader) (p m : ℕ) where
+    any-again : read s rank limit R h any A p (reached s m p 2) ≡ read s rank limit R h any A p m
+    unfolding read
+    any-again = ap (λ (z : ℕ). elim (eqb (kind s p) 59) [ true ↦ ended s z 0 | false ↦ fine (p + 1) z none 0 ]) (reached-twice m p 2)
+
+    pub begins-again : (e : Term) → read s rank limit R h (any ⨾ e) A p (reached s m p 2) ≡ read s rank limit R h (any ⨾ e) A p m
+    unfolding read
+    begins-again e = ap (λ (z : Out). then z (read s rank limit R h e A)) any-again
+
+    pub on-again : (ks : List ℕ) (a b : Term) → read s rank limit R h (on next ks a b) A p (reached s m p 2) ≡ read s rank limit R h (on next ks a b) A p m
+    unfolding read
+    on-again ks a b =
+        ap (λ (z : ℕ). elim (eqb (kind s p) 59) [ true ↦ ended s z 0 | false ↦ elim (member (kind s p) ks) [ true ↦ read s rank limit R h a A p z | false ↦ read s rank limit R h b A p z ] ]) (reached-twice m p 2)
 
   -- taking is getting, and then taking
   module _ (c : Cursor) where
@@ -95,65 +102,66 @@ module _ (s : List ℕ) where
   unfolding read
   refused rank limit R h A c {t} {d} code x =
       let g = got s c x in
-      let p : d .place ≡ c .place = ap (λ (z : Cursor). z .place) (g .cursor) in
-      no-case _ _ _ (ne-eqb _ _ (λ q. g .real (sym (ap (kind s) p) ∙ q)))
-      ∙ ap (λ (z : ℕ). fail (record { number = 1; line = z; found = d .place; expected = code })) (ap (line s) p ∙ sym (ap (λ (z : Token). z .line) (g .token)))
+      no-case _ _ _ (ne-eqb _ _ (λ q. g .real (sym (ap (kind s) (get-place s c x)) ∙ q)))
+      ∙ ap (λ (z : ℕ). fail (record { number = 1; line = z; found = d .place; expected = code })) (sym (got-line s c x))
 
--- a term that asks for nothing around it; and one that asks where what is held ends
-pub settled : (s : List ℕ) (k : Ranking) (limit g : ℕ) (H : Held) (A : Reader) (e : Term) → stable false false false e ≡ true → (c : Cursor)
-    → read s (ranks k) limit (readers s (ranks k) g) H e A (c .place) (c .mark) ≡ says s k g e c
-settled s k limit g H A e q c = settle s (ranks k) limit 0 (readers s (ranks k) g) false false false H (hold 0 0 none) (λ x. wrong x) (λ x. wrong x) e q A again (λ x. wrong x) (c .place) (c .mark)
+-- one token decides between several productions, each for a kind, and one for all the others: `choice` is the term, and `pick` what it comes
+-- to for a kind
+abbrev pub Row : Type 0
+Row = ℕ × Term
 
-pub settled-end : (s : List ℕ) (k : Ranking) (limit g : ℕ) (H : Held) (A : Reader) (e : Term) → stable false true false e ≡ true → (c : Cursor)
-    → read s (ranks k) limit (readers s (ranks k) g) H e A (c .place) (c .mark) ≡ under s k 0 g (H .end) e (c .place) (c .mark)
-settled-end s k limit g H A e q c = settle s (ranks k) limit 0 (readers s (ranks k) g) false true false H (hold 0 (H .end) none) (λ x. refl) (λ x. wrong x) e q A again (λ x. wrong x) (c .place) (c .mark)
+abbrev pub choice : List Row → Term → Term
+choice [] e = e
+choice (r ∷ rs) e = on next (r .0 ∷ []) (r .1) (choice rs e)
 
--- a list of one kind
-pub one : {x k : ℕ} → x ≡ k → member x (k ∷ []) ≡ true
-one e = ap (λ (z : Bool). z || false) (eq-eqb _ _ e)
+abbrev pub pick : List Row → Term → ℕ → Term
+pick [] e k = e
+pick (r ∷ rs) e k = elim (member k (r .0 ∷ [])) as (λ z. Term) [ true ↦ r .1 | false ↦ pick rs e k ]
 
-pub other : {x k : ℕ} → (x ≡ k → ⊥) → member x (k ∷ []) ≡ false
-other n = ap (λ (z : Bool). z || false) (ne-eqb _ _ n)
+-- a kind that has no production of its own
+abbrev pub kinds : List Row → List ℕ
+kinds [] = []
+kinds (r ∷ rs) = r .0 ∷ kinds rs
 
--- a bound that the cursor itself shows; a list that is part of what began before it
-pub raise : {s : List ℕ} {low used more : ℕ} {n n′ : List ℕ} {o : Out} {c : Cursor} {u v : ℕ} (low′ : ℕ) → Fine s low used more n n′ o c u v → low′ ≤ c .place → Fine s low′ used more n n′ o c u v
-raise low′ f l = record { trees = f .trees; says = f .says; grown = f .grown; laid = f .laid; at = f .at; later = l; room = f .room }
+pick-other : (rs : List Row) (e : Term) (k : ℕ) → Unlike k (kinds rs) (pick rs e k ≡ e)
+pick-other [] e k = refl
+pick-other (r ∷ rs) e k = λ n. unlike k (kinds rs) (λ q. ap (λ (z : Bool). elim z as (λ z. Term) [ true ↦ r .1 | false ↦ pick rs e k ]) (other n) ∙ q) (pick-other rs e k)
 
-pub lower-sums : (s : List ℕ) (start low start′ low′ used more : ℕ) (n n′ : List ℕ) (o : Out) (r : Sum) → start′ ≤ start → low′ ≤ low → Sums s start low used more n n′ o r → Sums s start′ low′ used more n n′ o r
-lower-sums s start low start′ low′ used more n n′ o (Sum·.Done c u v) a b f = (raise low′ (f .0) (omega (arith, f .0 .later)), omega (arith, f .1))
-lower-sums s start low start′ low′ used more n n′ o (Sum·.Fail x) a b f = f
+module _ (s : List ℕ) (rank : Ranks) (limit : ℕ) (R : Readers) (h : Held) (A : Reader) where
+  abbrev From : Cursor → Term → Out
+  From d e = read s rank limit R h e A (d .place) (d .mark)
 
--- what is held, and what is read after it
-pub lead-stop : {o : Out} {e : Refusal} (f : Forest → Reader) → o ≡ fail e → leads o f ≡ fail e
-lead-stop f x = ap (λ (z : Out). leads z f) x
+  picked : (d : Cursor) (x : Bool) (a b b′ : Term) → From d b ≡ From d b′ → elim x as (λ z. Out) [ true ↦ From d a | false ↦ From d b ] ≡ From d (elim x as (λ z. Term) [ true ↦ a | false ↦ b′ ])
+  picked d true a b b′ e = refl
+  picked d false a b b′ e = e
 
-pub leads-is : {s : List ℕ} {low used more : ℕ} {n n′ : List ℕ} {o : Out} {c : Cursor} {u : ℕ} (f : Forest → Reader) (x : Fine s low used more n n′ o c u 0) → leads o f ≡ f (x .trees) (c .place) (c .mark)
-leads-is {c = c} f x = ap (λ (z : Out). leads z f) (x .says) ∙ add-none (f (x .trees) (c .place) (c .mark))
+  chosen : (c : Cursor) {t : Token} {d : Cursor} → getNext s c ≡ Took t d → (r : Row) (rs : List Row) (e : Term) → From c (choice (r ∷ rs) e) ≡ From d (pick (r ∷ rs) e (t .kind))
+  chosen c {t} {d} x r [] e = next-is s rank limit R h A c (r .0 ∷ []) (r .1) e x ∙ picked d (member (t .kind) (r .0 ∷ [])) (r .1) e e refl
+  chosen c {t} {d} x r (r′ ∷ rs) e =
+      next-is s rank limit R h A c (r .0 ∷ []) (r .1) (choice (r′ ∷ rs) e) x
+      ∙ picked d (member (t .kind) (r .0 ∷ [])) (r .1) (choice (r′ ∷ rs) e) (pick (r′ ∷ rs) e (t .kind)) (chosen d (got-again s c x) r′ rs e)
 
--- one level down
-module _ (s : List ℕ) (k : Ranking) where
-  pub exps-deep : (limit g : ℕ) (c : Cursor) → g ≡ 0 → readers s (ranks k) g .exps limit (c .place) (c .mark) ≡ readers s (ranks k) 0 .exps limit (c .place) (c .mark)
-  exps-deep limit g c e = ap (λ (z : ℕ). readers s (ranks k) z .exps limit (c .place) (c .mark)) e
+  -- there is no token; it is of a kind that has a production of its own; it is of none of them
+  pub by-none : (c : Cursor) (r : Row) (rs : List Row) (e : Term) {f : Refusal} → getNext s c ≡ Fail f → From c (choice (r ∷ rs) e) ≡ fail f
+  by-none c r rs e x = next-fail s rank limit R h A c (r .0 ∷ []) (r .1) (choice rs e) x
 
-  pub stats-deep : (g : ℕ) (c : Cursor) → g ≡ 0 → readers s (ranks k) g .stats (c .place) (c .mark) ≡ readers s (ranks k) 0 .stats (c .place) (c .mark)
-  stats-deep g c e = ap (λ (z : ℕ). readers s (ranks k) z .stats (c .place) (c .mark)) e
+  module _ (c : Cursor) (r : Row) (rs : List Row) (e : Term) {t : Token} {d : Cursor} (x : getNext s c ≡ Took t d) where
+    pub by-kind : {k : ℕ} → t .kind ≡ k → From c (choice (r ∷ rs) e) ≡ From d (pick (r ∷ rs) e k)
+    by-kind q = chosen c x r rs e ∙ ap (λ (z : ℕ). From d (pick (r ∷ rs) e z)) q
 
-  pub exps-down : (limit g : ℕ) (c : Cursor) → (g ≡ 0 → ⊥)
-      → readers s (ranks k) g .exps limit (c .place) (c .mark)
-      ≡ read s (ranks k) limit (readers s (ranks k) (g - 1)) (hold 0 0 none) expression (loop s (length s) (read s (ranks k) limit (readers s (ranks k) (g - 1)) (hold 0 0 none) expression)) (c .place) (c .mark)
-  exps-down limit zero c n = absurd (n refl)
-  exps-down limit (suc g) c n =
-      let p : g ≡ suc g - 1 = omega arith in
-      ap (λ (z : ℕ). read s (ranks k) limit (readers s (ranks k) z) (hold 0 0 none) expression (loop s (length s) (read s (ranks k) limit (readers s (ranks k) z) (hold 0 0 none) expression)) (c .place) (c .mark)) p
+    pub by-others : Unlike (t .kind) (kinds (r ∷ rs)) (From c (choice (r ∷ rs) e) ≡ From d e)
+    by-others = unlike (t .kind) (kinds (r ∷ rs)) (λ q. chosen c x r rs e ∙ ap (From d) q) (pick-other (r ∷ rs) e (t .kind))
 
-  pub stats-down : (g : ℕ) (c : Cursor) → (g ≡ 0 → ⊥) → readers s (ranks k) g .stats (c .place) (c .mark) ≡ says s k (g - 1) statement c
-  unfolding statement ifstat whilestat dostat forstat repeatstat functionstat localfunction localstat label breakstat gotostat exprstat explist block retstat funcbody parlist suffixed suffix primary args table field
-  stats-down zero c n = absurd (n refl)
-  stats-down (suc g) c n =
-      let p : g ≡ suc g - 1 = omega arith in
-      settled s k 0 g (hold 0 0 none) (loop s (length s) (read s (ranks k) 0 (readers s (ranks k) g) (hold 0 0 none) statement)) statement refl c ∙ ap (λ (z : ℕ). says s k z statement c) p
+-- the look that closes a block stays where it is
+abbrev placed : Out → ℕ
+placed (fine q m t v) = q
+placed (fail e) = 0
 
--- a token of a kind, as the descent asks for it: after what was read, or after so many of a list
+pub looks-on : (s : List ℕ) (k : Ranking) (g : ℕ) (c : Cursor) {low used more : ℕ} {n n′ : List ℕ} {d : Cursor} {u v : ℕ} → Fine s low used more n n′ (says s k g look c) d u v → c .place ≡ d .place
+unfolding read
+looks-on s k g c f = ap placed (f .says)
+
+-- a token of a kind that was expected, as an answer: by itself; and after so many of a list
 module _ (s : List ℕ) (rank : Ranks) (limit : ℕ) (R : Readers) (h : Held) (A : Reader) (c : Cursor) (k : ℕ) (real : eqb k 59 ≡ false) (small : expecting k ≡ k + 1) (formed : Formed s) where
   abbrev Word : Out
   Word = read s rank limit R h (word k) A (c .place) (c .mark)
@@ -165,10 +173,18 @@ module _ (s : List ℕ) (rank : Ranks) (limit : ℕ) (R : Readers) (h : Held) (A
       go (Took t d) q = word-fine s rank limit R h A c n used more formed l k real small q
       go (Fail z) q = word-fail s rank limit R h A c k real small q
 
-  pub counted-sums : {low used more : ℕ} {n n′ : List ℕ} {o : Out} {u v : ℕ} (start more′ : ℕ) → Fine s low used more n n′ o c u v → u ≤ 4 * c .place + (4 + more′) → v + 2 * start ≤ 2 * c .place
-      → (r : Sum) → r ≡ counting u v (expectNext s c k) → Sums s start low used more′ n n′ (then o (read s rank limit R h (word k) A)) r
-  counted-sums {low} {used} {more} {n} {n′} {o} {u} {v} start more′ f l b r e = subst (Sums s start low used more′ n n′ (then o (read s rank limit R h (word k) A))) (sym e) (go (expectNext s c k) refl)
+  pub counted-sums : {low used more : ℕ} {n n′ : List ℕ} {o : Out} {rest : Reader} {u v : ℕ} (start low′ more′ : ℕ) → Going s low used more n n′ o rest c u v → rest (c .place) (c .mark) ≡ Word
+      → low′ ≤ c .place + 1 → u ≤ 4 * c .place + (4 + more′) → v + 2 * start ≤ 2 * c .place → (r : Sum) → r ≡ counting u v (expectNext s c k) → Sums s start low′ used more′ n n′ o r
+  counted-sums {used = used} {n = n} {n′ = n′} {o = o} {u = u} {v = v} start low′ more′ g e l m b r q = subst (Sums s start low′ used more′ n n′ o) (sym q) (go (expectNext s c k) refl)
     where
-      go : (x : Next) → expectNext s c k ≡ x → Sums s start low used more′ n n′ (then o (read s rank limit R h (word k) A)) (counting u v x)
-      go (Took t d) q = let w = word-fine s rank limit R h A c n′ u more′ formed l k real small q in (revalue (omega arith) (both _ f w (omega arith)), omega (arith, w .later))
-      go (Fail z) q = past _ f (word-fail s rank limit R h A c k real small q)
+      go : (x : Next) → expectNext s c k ≡ x → Sums s start low′ used more′ n n′ o (counting u v x)
+      go (Took t d) y =
+          let w = word-fine s rank limit R h A c n′ u more′ formed m k real small y in
+          (lower low′ (revalue (omega arith) (ends g (alter e w) (omega arith))) (omega (arith, w .later)), omega (arith, w .later))
+      go (Fail z) y = fails g (e ∙ word-fail s rank limit R h A c k real small y)
+
+-- the same, after a part that was read
+pub expect-after : (s : List ℕ) (rank : Ranks) (limit : ℕ) (R : Readers) (h : Held) (A : Reader) {low used more : ℕ} {n n′ : List ℕ} {o : Out} {c : Cursor} {u v : ℕ} → Fine s low used more n n′ o c u v
+    → (k : ℕ) → eqb k 59 ≡ false → expecting k ≡ k + 1 → Formed s → (more′ : ℕ) → more ≤ 4 + more′ → (r : Step) → r ≡ stepped u (expectNext s c k)
+    → Meets s (c .place + 1) u more′ n′ n′ (read s rank limit R h (word k) A (c .place) (c .mark)) r
+expect-after s rank limit R h A {n′ = n′} {c = c} {u = u} f k real small formed more′ l r e = expect-meets s rank limit R h A c k real small formed n′ u more′ (omega (arith, f .room)) r e

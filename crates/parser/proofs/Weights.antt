@@ -1,8 +1,4 @@
 -- Lists whose parts weigh nothing: explist 0 and args 0 read as explist 1 and args 1 do, with the value 0. Assumes nothing.
--- To use:  use Rattle.parser.proofs.Weights.{weightless, exps-light, args-light, light-fine, light-fail}
--- With x : Fine .. (says s k g (explist 1) c) d u v, `light-fine (exps-light s k 0 g (hold 0 0 none) again c) x` is the Fine of explist 0 with
--- value 0; with x : says .. (explist 1) c ≡ fail e, `light-fail (exps-light ..) x` is that of explist 0. (args-light: the same for args 0.)
--- The arguments are the stream, the ranking, limit, levels, what is held, what `again` is, and the cursor. Nothing needs unfolding.
 use mathlib.Core.Path.{_≡_, refl, ap, _∙_}
 use mathlib.Core.List.{List, [], _∷_}
 use mathlib.Core.Bool.{Bool, true, false, _&&_}
@@ -26,7 +22,7 @@ use Rattle.grammar.specs.Levels.{readers}
 use Rattle.parser.specs.Contract.{Fine}
 
 -- the same without the value
-abbrev pub weightless : Out → Out
+abbrev weightless : Out → Out
 weightless (fine q m t v) = fine q m t 0
 weightless (fail e) = fail e
 

@@ -1,12 +1,11 @@
 -- The whole stream: what the reading of it answers, and the promise of the public calls. Assumes nothing.
 use mathlib.Core.Path.{_≡_, refl, sym, ap, _∙_, subst}
 use mathlib.Core.List.{List}
-use Prim.Native.Nat.{ℕ, _+_, _*_, _≤_, _<_}
+use Prim.Native.Nat.{ℕ, _*_, _≤_, _<_}
 use native.Mathlib.Omega.{arith}
 use borrow.Author.Tests.{eq-eqb, ne-eqb}
-use lib.ListN.{length, replicate}
+use lib.ListN.{length}
 use lib.Seq.{sets}
-use Rattle.stream.specs.Words.{records, kind}
 use Rattle.stream.specs.Formed.{Formed, Malformed}
 use Rattle.stream.specs.Reader.{told, lookAhead}
 use Rattle.stream.specs.declared.reader.Cursor.{Cursor}
@@ -29,7 +28,7 @@ use Rattle.parser.specs.declared.Step.{Step}
 use Rattle.parser.specs.declared.Step.the-variants as Step·
 use Rattle.parser.specs.Answered.{Answered, refusing, counting, Zeroed}
 use Rattle.parser.proofs.Steps.{saw, ran-out}
-use Rattle.parser.proofs.Looks.{settled}
+use Rattle.parser.proofs.Around.{settled}
 
 abbrev pub start : Cursor
 start = record { place = 0; mark = 0 }
@@ -49,7 +48,7 @@ module _ (s : List ℕ) (low used more : ℕ) (n n′ : List ℕ) where
 
 module _ (s : List ℕ) (k : Ranking) where
   -- the chunk is a block, and nothing after it
-  pub chunk-block : chunk s (ranks k) 199 ≡ finish s (says s k 199 block start)
+  chunk-block : chunk s (ranks k) 199 ≡ finish s (says s k 199 block start)
   unfolding block retstat explist
   chunk-block = ap (finish s) (settled s k 0 199 (hold 0 0 none) (loop s (length s) (read s (ranks k) 0 (readers s (ranks k) 199) (hold 0 0 none) block)) block refl start)
 

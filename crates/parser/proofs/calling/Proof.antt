@@ -1,7 +1,7 @@
 use borrow.Author.Needs.{needs}
 use mathlib.Core.Path.{refl, sym, _∙_}
 use Prim.Native.Nat.{_-_}
-use Rattle.parser.proofs.Steps.{taken}
+use Rattle.parser.proofs.Kit.{kept}
 use borrow.Author.Needs.{needs}
 use Rattle.parser.proofs.calling.Statement.{statement}
 use Rattle.parser.proofs.calling.Tie as tie
@@ -25,7 +25,7 @@ misfit-requires c κs = search needs
 
 -- src/lib.rt:940:1
 same-length : tie.Need-same-length
-same-length c = search needs
+same-length c = (c .before .before .close) .kept .0
 
 -- src/lib.rt:940:1
 returns : tie.Need-returns

@@ -5,8 +5,9 @@ use native.Mathlib.Omega.{arith}
 use Rattle.grammar.specs.Reading.{fail, last}
 use Rattle.parser.specs.Contract.{says}
 use Rattle.stream.proofs.Words.{some}
-use Rattle.grammar.specs.Productions.{block as block′}
+use Rattle.parser.proofs.Kit.{kept}
 use Rattle.parser.proofs.Whole.{start, failed, done, block-fails, chunk-ends, chunk-left}
+use Rattle.grammar.specs.Productions.{block as block′}
 use borrow.Author.Needs.{needs}
 use Rattle.parser.proofs.chunk.Statement.{statement}
 use Rattle.parser.proofs.chunk.Tie as tie
@@ -46,7 +47,7 @@ reading-line-requires c κs = search needs
 
 -- src/lib.rt:1588:1
 same-length : tie.Need-same-length
-same-length c = search needs
+same-length c = (c .before .before .before .before .before .block) .kept .1 .0
 
 -- src/lib.rt:1588:1
 returns : tie.Need-returns
@@ -54,7 +55,7 @@ returns c = block-fails ((c .before .before .before .before .before .before .bef
 
 -- src/lib.rt:1588:1
 same-length-2 : tie.Need-same-length-2
-same-length-2 c = search needs
+same-length-2 c = (c .before .before .before .before .before .before .before .before .before .block) .kept .1 .0
 
 -- src/lib.rt:1588:1
 returns-2 : tie.Need-returns-2
@@ -62,7 +63,7 @@ returns-2 c = chunk-ends ((c .before .before .before .before .before .before .be
 
 -- src/lib.rt:1588:1
 same-length-3 : tie.Need-same-length-3
-same-length-3 c = search needs
+same-length-3 c = (c .before .before .before .before .before .before .before .before .before .before .block) .kept .1 .0
 
 -- src/lib.rt:1588:1
 returns-3 : tie.Need-returns-3

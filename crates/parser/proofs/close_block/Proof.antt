@@ -3,17 +3,16 @@ use mathlib.Core.Path.{refl, sym, ap, _∙_}
 use mathlib.Core.List.{[]}
 use Prim.Native.Nat.{ℕ, _*_, _-_}
 use Rattle.operators.specs.Ranks.{ranks}
+use Rattle.stream.specs.Words.{line as lineAt}
 use Rattle.tree.specs.Forest.{none}
 use Rattle.grammar.specs.Reading.{read, hold}
 use Rattle.grammar.specs.Levels.{readers}
 use Rattle.grammar.specs.Term.{empty}
 use Rattle.parser.specs.Contract.{again}
-use Rattle.parser.proofs.Steps.{saw, look-out, end-out}
-use Rattle.parser.proofs.Kit.{looked}
-use Rattle.parser.proofs.Tokens.{look-place, end-place}
+use Rattle.parser.proofs.Steps.{look-out, end-out, look-place, end-place, saw-line}
+use Rattle.parser.proofs.Kit.{kept, looked}
 use lib.Seq.{sets}
 use Rattle.tree.specs.Forest.{words}
-use Rattle.stream.specs.declared.reader.Token.{Token}
 use borrow.Author.Needs.{needs}
 use Rattle.parser.proofs.close_block.Statement.{statement}
 use Rattle.parser.proofs.close_block.Tie as tie
@@ -49,27 +48,26 @@ close-requires-2 c κs = search needs
 
 -- src/lib.rt:359:1
 same-length : tie.Need-same-length
-same-length c = search needs
+same-length c = (c .before .before .close) .kept .0
 
 -- src/lib.rt:359:1
 returns : tie.Need-returns
 unfolding read
 returns c =
     λ k h.
-    let x = (sym ((c .before .before .before .before .before .before .before .look-ahead) .ensures)) ∙ (c .before .before .before .before .before .t) .given .1 in
-    rw ((c .before .before .close) .ensures .0) (looked ((c .before .before .before .before .before .before .before .before .before .before .args) .nodes .now) ((c .before .before .before .before .before .before .before .before .before .before .args) .used) 1 ((c .before .before .before .before .before .before .before .before .before .before .args) .c) _ (look-out ((c .before .before .before .before .before .before .before .before .before .before .args) .stream .now) (ranks k) 0 (readers ((c .before .before .before .before .before .before .before .before .before .before .args) .stream .now) (ranks k) h) (hold 0 0 none) again ((c .before .before .before .before .before .before .before .before .before .before .args) .c) [] empty empty x refl) (look-place ((c .before .before .before .before .before .before .before .before .before .before .args) .stream .now) ((c .before .before .before .before .before .before .before .before .before .before .args) .c) x) ((c .before .before .before .before .before .before .before .before .before .before .pre) .0 .at) ((c .before .before .before .before .before .before .before .before .before .before .pre) .0 .room), (c .before .before .close) .ensures .1 ∙ ap (λ (z : Token). sets ((c .before .before .before .before .before .before .before .before .before .before .args) .nodes .now) ((c .before .before .before .before .before .before .before .before .before .before .args) .at * 4) (words 1 ((c .before .before .before .before .before .before .before .before .before .before .args) .value) (z .line) (((c .before .before .before .before .before .before .before .before .before .before .args) .used) - (c .before .before .before .before .before .before .before .before .before .before .args) .at))) (saw ((c .before .before .before .before .before .before .before .before .before .before .args) .stream .now) ((c .before .before .before .before .before .before .before .before .before .before .args) .c) x .token))
+    let p = look-place ((c .before .before .before .before .before .before .before .before .before .before .args) .stream .now) ((c .before .before .before .before .before .before .before .before .before .before .args) .c) (sym ((c .before .before .before .before .before .before .before .look-ahead) .ensures) ∙ (c .before .before .before .before .before .t) .given .1) in
+    rw ((c .before .before .close) .ensures .0) (looked ((c .before .before .before .before .before .before .before .before .before .before .args) .nodes .now) ((c .before .before .before .before .before .before .before .before .before .before .args) .used) 1 ((c .before .before .before .before .before .before .before .before .before .before .args) .c) _ (look-out ((c .before .before .before .before .before .before .before .before .before .before .args) .stream .now) (ranks k) 0 (readers ((c .before .before .before .before .before .before .before .before .before .before .args) .stream .now) (ranks k) h) (hold 0 0 none) again ((c .before .before .before .before .before .before .before .before .before .before .args) .c) [] empty empty (sym ((c .before .before .before .before .before .before .before .look-ahead) .ensures) ∙ (c .before .before .before .before .before .t) .given .1) refl) p (((c .before .before .before .before .before .before .before .before .before .before .pre) .0) .at) (((c .before .before .before .before .before .before .before .before .before .before .pre) .0) .room), (c .before .before .close) .ensures .1 ∙ ap (λ (z : ℕ). sets ((c .before .before .before .before .before .before .before .before .before .before .args) .nodes .now) ((c .before .before .before .before .before .before .before .before .before .before .args) .at * 4) (words 1 ((c .before .before .before .before .before .before .before .before .before .before .args) .value) z (((c .before .before .before .before .before .before .before .before .before .before .args) .used) - (c .before .before .before .before .before .before .before .before .before .before .args) .at))) (saw-line ((c .before .before .before .before .before .before .before .before .before .before .args) .stream .now) ((c .before .before .before .before .before .before .before .before .before .before .args) .c) (sym ((c .before .before .before .before .before .before .before .look-ahead) .ensures) ∙ (c .before .before .before .before .before .t) .given .1) ∙ ap (lineAt ((c .before .before .before .before .before .before .before .before .before .before .args) .stream .now)) p))
 
 -- src/lib.rt:359:1
 same-length-2 : tie.Need-same-length-2
-same-length-2 c = search needs
+same-length-2 c = (c .before .before .close2) .kept .0
 
 -- src/lib.rt:359:1
 returns-2 : tie.Need-returns-2
 unfolding read
 returns-2 c =
     λ k h.
-    let x = (sym ((c .before .before .before .before .before .before .before .before .look-ahead) .ensures)) ∙ (c .before .before .before .before .before .before .d) .given .1 in
-    rw ((c .before .before .close2) .ensures .0) (looked ((c .before .before .before .before .before .before .before .before .before .before .before .args) .nodes .now) ((c .before .before .before .before .before .before .before .before .before .before .before .args) .used) 1 ((c .before .before .before .before .before .before .before .before .before .before .before .args) .c) _ (end-out ((c .before .before .before .before .before .before .before .before .before .before .before .args) .stream .now) (ranks k) 0 (readers ((c .before .before .before .before .before .before .before .before .before .before .before .args) .stream .now) (ranks k) h) (hold 0 0 none) again ((c .before .before .before .before .before .before .before .before .before .before .before .args) .c) [] empty empty x refl) (end-place ((c .before .before .before .before .before .before .before .before .before .before .before .args) .stream .now) ((c .before .before .before .before .before .before .before .before .before .before .before .args) .c) x) ((c .before .before .before .before .before .before .before .before .before .before .before .pre) .0 .at) ((c .before .before .before .before .before .before .before .before .before .before .before .pre) .0 .room), (c .before .before .close2) .ensures .1 ∙ ap (λ (z : ℕ). sets ((c .before .before .before .before .before .before .before .before .before .before .before .args) .nodes .now) ((c .before .before .before .before .before .before .before .before .before .before .before .args) .at * 4) (words 1 ((c .before .before .before .before .before .before .before .before .before .before .before .args) .value) z (((c .before .before .before .before .before .before .before .before .before .before .before .args) .used) - (c .before .before .before .before .before .before .before .before .before .before .before .args) .at))) ((c .before .before .before .before .line-at) .ensures))
+    rw ((c .before .before .close2) .ensures .0) (looked ((c .before .before .before .before .before .before .before .before .before .before .before .args) .nodes .now) ((c .before .before .before .before .before .before .before .before .before .before .before .args) .used) 1 ((c .before .before .before .before .before .before .before .before .before .before .before .args) .c) _ (end-out ((c .before .before .before .before .before .before .before .before .before .before .before .args) .stream .now) (ranks k) 0 (readers ((c .before .before .before .before .before .before .before .before .before .before .before .args) .stream .now) (ranks k) h) (hold 0 0 none) again ((c .before .before .before .before .before .before .before .before .before .before .before .args) .c) [] empty empty (sym ((c .before .before .before .before .before .before .before .before .look-ahead) .ensures) ∙ (c .before .before .before .before .before .before .d) .given .1) refl) (end-place ((c .before .before .before .before .before .before .before .before .before .before .before .args) .stream .now) ((c .before .before .before .before .before .before .before .before .before .before .before .args) .c) (sym ((c .before .before .before .before .before .before .before .before .look-ahead) .ensures) ∙ (c .before .before .before .before .before .before .d) .given .1)) (((c .before .before .before .before .before .before .before .before .before .before .before .pre) .0) .at) (((c .before .before .before .before .before .before .before .before .before .before .before .pre) .0) .room), (c .before .before .close2) .ensures .1 ∙ ap (λ (z : ℕ). sets ((c .before .before .before .before .before .before .before .before .before .before .before .args) .nodes .now) ((c .before .before .before .before .before .before .before .before .before .before .before .args) .at * 4) (words 1 ((c .before .before .before .before .before .before .before .before .before .before .before .args) .value) z (((c .before .before .before .before .before .before .before .before .before .before .before .args) .used) - (c .before .before .before .before .before .before .before .before .before .before .before .args) .at))) ((c .before .before .before .before .line-at) .ensures))
 
 pub close-block-spec : {M : Type 1} → statement M
 close-block-spec =

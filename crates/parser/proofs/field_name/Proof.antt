@@ -9,8 +9,8 @@ use Rattle.grammar.specs.Levels.{readers}
 use Rattle.grammar.specs.Term.{unlined}
 use Rattle.parser.specs.Contract.{again}
 use Rattle.parser.proofs.Steps.{took-name}
-use Rattle.parser.proofs.Kit.{revalue, stop, past, both, over}
-use Rattle.parser.proofs.Tokens.{any-fail, name-fail, any-fine, name-fine, weigh-fine}
+use Rattle.parser.proofs.Kit.{kept, revalue, stop, past, both, over}
+use Rattle.parser.proofs.Tokens.{paid, any-fail, name-fail, any-fine, name-fine, weigh-fine}
 use borrow.Author.Needs.{needs}
 use Rattle.parser.proofs.field_name.Statement.{statement}
 use Rattle.parser.proofs.field_name.Tie as tie
@@ -62,21 +62,21 @@ returns-2 : tie.Need-returns-2
 unfolding read
 returns-2 c =
     λ k h.
-    let f1 = any-fine ((c .before .before .before .before .before .before .before .before .before .before .args) .stream .now) (ranks k) 0 (readers ((c .before .before .before .before .before .before .before .before .before .before .args) .stream .now) (ranks k) h) (hold 0 0 none) again ((c .before .before .before .before .before .before .before .before .before .before .args) .c) ((c .before .before .before .before .before .before .before .before .before .before .args) .nodes .now) (((c .before .before .before .before .before .before .before .before .before .before .args) .used) + 1) 0 ((c .before .before .before .before .before .before .before .before .before .before .pre) .formed) (omega arith) ((sym ((c .before .before .before .before .before .before .before .take-next) .ensures)) ∙ (c .before .before .before .before .before .d) .given .1) in
+    let f1 = any-fine ((c .before .before .before .before .before .before .before .before .before .before .args) .stream .now) (ranks k) 0 (readers ((c .before .before .before .before .before .before .before .before .before .before .args) .stream .now) (ranks k) h) (hold 0 0 none) again ((c .before .before .before .before .before .before .before .before .before .before .args) .c) ((c .before .before .before .before .before .before .before .before .before .before .args) .nodes .now) (((c .before .before .before .before .before .before .before .before .before .before .args) .used) + 1) 0 ((c .before .before .before .before .before .before .before .before .before .before .pre) .formed) (omega (arith, (c .before .before .before .before .before .before .before .before .before .before .pre) .room)) ((sym ((c .before .before .before .before .before .before .before .take-next) .ensures)) ∙ (c .before .before .before .before .before .d) .given .1) in
     ap (wrap ((c .before .before .before .before .before .before .before .before .before .before .args) .stream .now) 32 unlined (((c .before .before .before .before .before .before .before .before .before .before .args) .c) .place)) (past _ f1 (stop _ (name-fail ((c .before .before .before .before .before .before .before .before .before .before .args) .stream .now) (ranks k) 0 (readers ((c .before .before .before .before .before .before .before .before .before .before .args) .stream .now) (ranks k) h) (hold 0 0 none) again ((c .before .before .before .before .before .d) .given .0 .1 .0) ((sym ((c .before .before .before .expect-name) .ensures)) ∙ (c .before .e2) .given .1))))
 
 -- src/lib.rt:1247:1
 same-length : tie.Need-same-length
-same-length c = search needs
+same-length c = (c .before .before .close) .kept .0
 
 -- src/lib.rt:1247:1
 returns-3 : tie.Need-returns-3
 unfolding read
 returns-3 c =
     λ k h.
-    let f1 = any-fine ((c .before .before .before .before .before .before .before .before .before .before .before .before .before .before .args) .stream .now) (ranks k) 0 (readers ((c .before .before .before .before .before .before .before .before .before .before .before .before .before .before .args) .stream .now) (ranks k) h) (hold 0 0 none) again ((c .before .before .before .before .before .before .before .before .before .before .before .before .before .before .args) .c) ((c .before .before .before .before .before .before .before .before .before .before .before .before .before .before .args) .nodes .now) (((c .before .before .before .before .before .before .before .before .before .before .before .before .before .before .args) .used) + 1) 0 ((c .before .before .before .before .before .before .before .before .before .before .before .before .before .before .pre) .formed) (omega arith) ((sym ((c .before .before .before .before .before .before .before .before .before .before .before .take-next) .ensures)) ∙ (c .before .before .before .before .before .before .before .before .before .d) .given .1) in
+    let f1 = any-fine ((c .before .before .before .before .before .before .before .before .before .before .before .before .before .before .args) .stream .now) (ranks k) 0 (readers ((c .before .before .before .before .before .before .before .before .before .before .before .before .before .before .args) .stream .now) (ranks k) h) (hold 0 0 none) again ((c .before .before .before .before .before .before .before .before .before .before .before .before .before .before .args) .c) ((c .before .before .before .before .before .before .before .before .before .before .before .before .before .before .args) .nodes .now) (((c .before .before .before .before .before .before .before .before .before .before .before .before .before .before .args) .used) + 1) 0 ((c .before .before .before .before .before .before .before .before .before .before .before .before .before .before .pre) .formed) (omega (arith, (c .before .before .before .before .before .before .before .before .before .before .before .before .before .before .pre) .room)) ((sym ((c .before .before .before .before .before .before .before .before .before .before .before .take-next) .ensures)) ∙ (c .before .before .before .before .before .before .before .before .before .d) .given .1) in
     let f2 = name-fine ((c .before .before .before .before .before .before .before .before .before .before .before .before .before .before .args) .stream .now) (ranks k) 0 (readers ((c .before .before .before .before .before .before .before .before .before .before .before .before .before .before .args) .stream .now) (ranks k) h) (hold 0 0 none) again ((c .before .before .before .before .before .before .before .before .before .d) .given .0 .1 .0) ((c .before .before .before .before .before .before .before .before .before .before .before .before .before .before .args) .nodes .now) (((c .before .before .before .before .before .before .before .before .before .before .before .before .before .before .args) .used) + 1) 0 ((c .before .before .before .before .before .before .before .before .before .before .before .before .before .before .pre) .formed) (omega (arith, f1 .room)) ((sym ((c .before .before .before .before .before .before .before .expect-name) .ensures)) ∙ (c .before .before .before .before .before .t) .given .1) in
-    let f3 = weigh-fine ((c .before .before .before .before .before .before .before .before .before .before .before .before .before .before .args) .stream .now) (ranks k) 0 (readers ((c .before .before .before .before .before .before .before .before .before .before .before .before .before .before .args) .stream .now) (ranks k) h) (hold 0 0 none) again ((c .before .before .before .before .before .before .before .before .before .d) .given .0 .1 .0) ((c .before .before .before .before .before .before .before .before .before .before .before .before .before .before .args) .nodes .now) (((c .before .before .before .before .before .before .before .before .before .before .before .before .before .before .args) .used) + 1) 0 (took-name ((c .before .before .before .before .before .before .before .before .before .before .before .before .before .before .args) .stream .now) ((c .before .before .before .before .before .before .before .before .before .d) .given .0 .1 .0) ((sym ((c .before .before .before .before .before .before .before .expect-name) .ensures)) ∙ (c .before .before .before .before .before .t) .given .1)) (f2 .at) (f2 .room) in
+    let f3 = weigh-fine ((c .before .before .before .before .before .before .before .before .before .before .before .before .before .before .args) .stream .now) (ranks k) 0 (readers ((c .before .before .before .before .before .before .before .before .before .before .before .before .before .before .args) .stream .now) (ranks k) h) (hold 0 0 none) again ((c .before .before .before .before .before .t) .given .0 .1 .0) ((c .before .before .before .before .before .before .before .before .before .before .before .before .before .before .args) .nodes .now) (((c .before .before .before .before .before .before .before .before .before .before .before .before .before .before .args) .used) + 1) 0 (paid (took-name ((c .before .before .before .before .before .before .before .before .before .before .before .before .before .before .args) .stream .now) ((c .before .before .before .before .before .before .before .before .before .d) .given .0 .1 .0) ((sym ((c .before .before .before .before .before .before .before .expect-name) .ensures)) ∙ (c .before .before .before .before .before .t) .given .1))) (f2 .at) (f2 .room) in
     rw ((c .before .before .close) .ensures .0) (over 32 unlined (((c .before .before .before .before .before .before .before .before .before .before .before .before .before .before .args) .c) .place) 0 (revalue (omega arith) (both _ f1 (both _ f2 f3 (omega arith)) (omega arith))) ((c .before .before .close) .ensures .1) refl)
 
 pub field-name-spec : {M : Type 1} → statement M

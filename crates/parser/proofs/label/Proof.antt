@@ -11,8 +11,8 @@ use Rattle.grammar.specs.Productions.{word}
 use Rattle.parser.specs.Contract.{again}
 use Rattle.stream.proofs.Words.{few}
 use Rattle.parser.proofs.Steps.{took-name}
-use Rattle.parser.proofs.Kit.{revalue, stop, past, both, over}
-use Rattle.parser.proofs.Tokens.{name-fail, word-fail, name-fine, word-fine, weigh-fine}
+use Rattle.parser.proofs.Kit.{kept, revalue, stop, past, both, over}
+use Rattle.parser.proofs.Tokens.{paid, name-fail, word-fail, name-fine, word-fine, weigh-fine}
 use Rattle.grammar.specs.Productions.{label}
 use borrow.Author.Needs.{needs}
 use Rattle.parser.proofs.label.Statement.{statement}
@@ -66,7 +66,7 @@ enum-known-f c = search needs
 
 -- src/lib.rt:279:76
 add-close : tie.Need-add-close
-add-close c = let b = few ((c .before .before .before .before .before .before .before .before .before .before .before .before .before .before .before .args) .stream .now) ((c .before .before .before .before .before .before .before .before .before .before .before .before .before .before .before .pre) .0 .formed) in omega (arith, (c .before .before .before .before .before .before .before .before .before .before .before .before .before .before .before .pre) .0 .room, (c .before .before .before .before .before .before .before .before .before .before .before .before .before .before .before .pre) .0 .at)
+add-close c = let b = few ((c .before .before .before .before .before .before .before .before .before .before .before .before .before .before .before .args) .stream .now) (((c .before .before .before .before .before .before .before .before .before .before .before .before .before .before .before .pre) .0) .formed) in omega (arith, ((c .before .before .before .before .before .before .before .before .before .before .before .before .before .before .before .pre) .0) .room, ((c .before .before .before .before .before .before .before .before .before .before .before .before .before .before .before .pre) .0) .at)
 
 -- src/lib.rt:279:33
 close-requires : tie.Need-close-requires
@@ -77,7 +77,7 @@ returns-2 : tie.Need-returns-2
 unfolding read label
 returns-2 c =
     λ k h.
-    let f1 = word-fine ((c .before .before .before .before .before .before .before .before .before .before .args) .stream .now) (ranks k) 0 (readers ((c .before .before .before .before .before .before .before .before .before .before .args) .stream .now) (ranks k) h) (hold 0 0 none) again ((c .before .before .before .before .before .before .before .before .before .before .args) .c) ((c .before .before .before .before .before .before .before .before .before .before .args) .nodes .now) (((c .before .before .before .before .before .before .before .before .before .before .args) .used) + 1) 0 ((c .before .before .before .before .before .before .before .before .before .before .pre) .0 .formed) (omega (arith, (c .before .before .before .before .before .before .before .before .before .before .pre) .0 .room)) 47 refl refl ((sym ((c .before .before .before .before .before .before .before .expect-next) .ensures)) ∙ (c .before .before .before .before .before .d) .given .1) in
+    let f1 = word-fine ((c .before .before .before .before .before .before .before .before .before .before .args) .stream .now) (ranks k) 0 (readers ((c .before .before .before .before .before .before .before .before .before .before .args) .stream .now) (ranks k) h) (hold 0 0 none) again ((c .before .before .before .before .before .before .before .before .before .before .args) .c) ((c .before .before .before .before .before .before .before .before .before .before .args) .nodes .now) (((c .before .before .before .before .before .before .before .before .before .before .args) .used) + 1) 0 (((c .before .before .before .before .before .before .before .before .before .before .pre) .0) .formed) (omega (arith, ((c .before .before .before .before .before .before .before .before .before .before .pre) .0) .room)) 47 refl refl ((sym ((c .before .before .before .before .before .before .before .expect-next) .ensures)) ∙ (c .before .before .before .before .before .d) .given .1) in
     ap (wrap ((c .before .before .before .before .before .before .before .before .before .before .args) .stream .now) 12 opening (((c .before .before .before .before .before .before .before .before .before .before .args) .c) .place)) (past _ f1 (stop _ (name-fail ((c .before .before .before .before .before .before .before .before .before .before .args) .stream .now) (ranks k) 0 (readers ((c .before .before .before .before .before .before .before .before .before .before .args) .stream .now) (ranks k) h) (hold 0 0 none) again ((c .before .before .before .before .before .d) .given .0 .1 .0) ((sym ((c .before .before .before .expect-name) .ensures)) ∙ (c .before .e2) .given .1))))
 
 -- src/lib.rt:265:1
@@ -85,24 +85,24 @@ returns-3 : tie.Need-returns-3
 unfolding read label
 returns-3 c =
     λ k h.
-    let f1 = word-fine ((c .before .before .before .before .before .before .before .before .before .before .before .before .before .before .args) .stream .now) (ranks k) 0 (readers ((c .before .before .before .before .before .before .before .before .before .before .before .before .before .before .args) .stream .now) (ranks k) h) (hold 0 0 none) again ((c .before .before .before .before .before .before .before .before .before .before .before .before .before .before .args) .c) ((c .before .before .before .before .before .before .before .before .before .before .before .before .before .before .args) .nodes .now) (((c .before .before .before .before .before .before .before .before .before .before .before .before .before .before .args) .used) + 1) 0 ((c .before .before .before .before .before .before .before .before .before .before .before .before .before .before .pre) .0 .formed) (omega (arith, (c .before .before .before .before .before .before .before .before .before .before .before .before .before .before .pre) .0 .room)) 47 refl refl ((sym ((c .before .before .before .before .before .before .before .before .before .before .before .expect-next) .ensures)) ∙ (c .before .before .before .before .before .before .before .before .before .d) .given .1) in
-    let f2 = name-fine ((c .before .before .before .before .before .before .before .before .before .before .before .before .before .before .args) .stream .now) (ranks k) 0 (readers ((c .before .before .before .before .before .before .before .before .before .before .before .before .before .before .args) .stream .now) (ranks k) h) (hold 0 0 none) again ((c .before .before .before .before .before .before .before .before .before .d) .given .0 .1 .0) ((c .before .before .before .before .before .before .before .before .before .before .before .before .before .before .args) .nodes .now) (((c .before .before .before .before .before .before .before .before .before .before .before .before .before .before .args) .used) + 1) 0 ((c .before .before .before .before .before .before .before .before .before .before .before .before .before .before .pre) .0 .formed) (omega (arith, f1 .room)) ((sym ((c .before .before .before .before .before .before .before .expect-name) .ensures)) ∙ (c .before .before .before .before .before .t) .given .1) in
-    let f3 = weigh-fine ((c .before .before .before .before .before .before .before .before .before .before .before .before .before .before .args) .stream .now) (ranks k) 0 (readers ((c .before .before .before .before .before .before .before .before .before .before .before .before .before .before .args) .stream .now) (ranks k) h) (hold 0 0 none) again ((c .before .before .before .before .before .before .before .before .before .d) .given .0 .1 .0) ((c .before .before .before .before .before .before .before .before .before .before .before .before .before .before .args) .nodes .now) (((c .before .before .before .before .before .before .before .before .before .before .before .before .before .before .args) .used) + 1) 0 (took-name ((c .before .before .before .before .before .before .before .before .before .before .before .before .before .before .args) .stream .now) ((c .before .before .before .before .before .before .before .before .before .d) .given .0 .1 .0) ((sym ((c .before .before .before .before .before .before .before .expect-name) .ensures)) ∙ (c .before .before .before .before .before .t) .given .1)) (f2 .at) (f2 .room) in
+    let f1 = word-fine ((c .before .before .before .before .before .before .before .before .before .before .before .before .before .before .args) .stream .now) (ranks k) 0 (readers ((c .before .before .before .before .before .before .before .before .before .before .before .before .before .before .args) .stream .now) (ranks k) h) (hold 0 0 none) again ((c .before .before .before .before .before .before .before .before .before .before .before .before .before .before .args) .c) ((c .before .before .before .before .before .before .before .before .before .before .before .before .before .before .args) .nodes .now) (((c .before .before .before .before .before .before .before .before .before .before .before .before .before .before .args) .used) + 1) 0 (((c .before .before .before .before .before .before .before .before .before .before .before .before .before .before .pre) .0) .formed) (omega (arith, ((c .before .before .before .before .before .before .before .before .before .before .before .before .before .before .pre) .0) .room)) 47 refl refl ((sym ((c .before .before .before .before .before .before .before .before .before .before .before .expect-next) .ensures)) ∙ (c .before .before .before .before .before .before .before .before .before .d) .given .1) in
+    let f2 = name-fine ((c .before .before .before .before .before .before .before .before .before .before .before .before .before .before .args) .stream .now) (ranks k) 0 (readers ((c .before .before .before .before .before .before .before .before .before .before .before .before .before .before .args) .stream .now) (ranks k) h) (hold 0 0 none) again ((c .before .before .before .before .before .before .before .before .before .d) .given .0 .1 .0) ((c .before .before .before .before .before .before .before .before .before .before .before .before .before .before .args) .nodes .now) (((c .before .before .before .before .before .before .before .before .before .before .before .before .before .before .args) .used) + 1) 0 (((c .before .before .before .before .before .before .before .before .before .before .before .before .before .before .pre) .0) .formed) (omega (arith, f1 .room)) ((sym ((c .before .before .before .before .before .before .before .expect-name) .ensures)) ∙ (c .before .before .before .before .before .t) .given .1) in
+    let f3 = weigh-fine ((c .before .before .before .before .before .before .before .before .before .before .before .before .before .before .args) .stream .now) (ranks k) 0 (readers ((c .before .before .before .before .before .before .before .before .before .before .before .before .before .before .args) .stream .now) (ranks k) h) (hold 0 0 none) again ((c .before .before .before .before .before .t) .given .0 .1 .0) ((c .before .before .before .before .before .before .before .before .before .before .before .before .before .before .args) .nodes .now) (((c .before .before .before .before .before .before .before .before .before .before .before .before .before .before .args) .used) + 1) 0 (paid (took-name ((c .before .before .before .before .before .before .before .before .before .before .before .before .before .before .args) .stream .now) ((c .before .before .before .before .before .before .before .before .before .d) .given .0 .1 .0) ((sym ((c .before .before .before .before .before .before .before .expect-name) .ensures)) ∙ (c .before .before .before .before .before .t) .given .1))) (f2 .at) (f2 .room) in
     ap (wrap ((c .before .before .before .before .before .before .before .before .before .before .before .before .before .before .args) .stream .now) 12 opening (((c .before .before .before .before .before .before .before .before .before .before .before .before .before .before .args) .c) .place)) (past _ f1 (past _ f2 (past (read ((c .before .before .before .before .before .before .before .before .before .before .before .before .before .before .args) .stream .now) (ranks k) 0 (readers ((c .before .before .before .before .before .before .before .before .before .before .before .before .before .before .args) .stream .now) (ranks k) h) (hold 0 0 none) (word 47) again) f3 (word-fail ((c .before .before .before .before .before .before .before .before .before .before .before .before .before .before .args) .stream .now) (ranks k) 0 (readers ((c .before .before .before .before .before .before .before .before .before .before .before .before .before .before .args) .stream .now) (ranks k) h) (hold 0 0 none) again ((c .before .before .before .before .before .t) .given .0 .1 .0) 47 refl refl ((sym ((c .before .before .before .expect-next2) .ensures)) ∙ (c .before .e3) .given .1)))))
 
 -- src/lib.rt:265:1
 same-length : tie.Need-same-length
-same-length c = search needs
+same-length c = (c .before .before .close) .kept .0
 
 -- src/lib.rt:265:1
 returns-4 : tie.Need-returns-4
 unfolding read label
 returns-4 c =
     λ k h.
-    let f1 = word-fine ((c .before .before .before .before .before .before .before .before .before .before .before .before .before .before .before .before .before .before .args) .stream .now) (ranks k) 0 (readers ((c .before .before .before .before .before .before .before .before .before .before .before .before .before .before .before .before .before .before .args) .stream .now) (ranks k) h) (hold 0 0 none) again ((c .before .before .before .before .before .before .before .before .before .before .before .before .before .before .before .before .before .before .args) .c) ((c .before .before .before .before .before .before .before .before .before .before .before .before .before .before .before .before .before .before .args) .nodes .now) (((c .before .before .before .before .before .before .before .before .before .before .before .before .before .before .before .before .before .before .args) .used) + 1) 0 ((c .before .before .before .before .before .before .before .before .before .before .before .before .before .before .before .before .before .before .pre) .0 .formed) (omega (arith, (c .before .before .before .before .before .before .before .before .before .before .before .before .before .before .before .before .before .before .pre) .0 .room)) 47 refl refl ((sym ((c .before .before .before .before .before .before .before .before .before .before .before .before .before .before .before .expect-next) .ensures)) ∙ (c .before .before .before .before .before .before .before .before .before .before .before .before .before .d) .given .1) in
-    let f2 = name-fine ((c .before .before .before .before .before .before .before .before .before .before .before .before .before .before .before .before .before .before .args) .stream .now) (ranks k) 0 (readers ((c .before .before .before .before .before .before .before .before .before .before .before .before .before .before .before .before .before .before .args) .stream .now) (ranks k) h) (hold 0 0 none) again ((c .before .before .before .before .before .before .before .before .before .before .before .before .before .d) .given .0 .1 .0) ((c .before .before .before .before .before .before .before .before .before .before .before .before .before .before .before .before .before .before .args) .nodes .now) (((c .before .before .before .before .before .before .before .before .before .before .before .before .before .before .before .before .before .before .args) .used) + 1) 0 ((c .before .before .before .before .before .before .before .before .before .before .before .before .before .before .before .before .before .before .pre) .0 .formed) (omega (arith, f1 .room)) ((sym ((c .before .before .before .before .before .before .before .before .before .before .before .expect-name) .ensures)) ∙ (c .before .before .before .before .before .before .before .before .before .t) .given .1) in
-    let f3 = weigh-fine ((c .before .before .before .before .before .before .before .before .before .before .before .before .before .before .before .before .before .before .args) .stream .now) (ranks k) 0 (readers ((c .before .before .before .before .before .before .before .before .before .before .before .before .before .before .before .before .before .before .args) .stream .now) (ranks k) h) (hold 0 0 none) again ((c .before .before .before .before .before .before .before .before .before .before .before .before .before .d) .given .0 .1 .0) ((c .before .before .before .before .before .before .before .before .before .before .before .before .before .before .before .before .before .before .args) .nodes .now) (((c .before .before .before .before .before .before .before .before .before .before .before .before .before .before .before .before .before .before .args) .used) + 1) 0 (took-name ((c .before .before .before .before .before .before .before .before .before .before .before .before .before .before .before .before .before .before .args) .stream .now) ((c .before .before .before .before .before .before .before .before .before .before .before .before .before .d) .given .0 .1 .0) ((sym ((c .before .before .before .before .before .before .before .before .before .before .before .expect-name) .ensures)) ∙ (c .before .before .before .before .before .before .before .before .before .t) .given .1)) (f2 .at) (f2 .room) in
-    let f4 = word-fine ((c .before .before .before .before .before .before .before .before .before .before .before .before .before .before .before .before .before .before .args) .stream .now) (ranks k) 0 (readers ((c .before .before .before .before .before .before .before .before .before .before .before .before .before .before .before .before .before .before .args) .stream .now) (ranks k) h) (hold 0 0 none) again ((c .before .before .before .before .before .before .before .before .before .t) .given .0 .1 .0) ((c .before .before .before .before .before .before .before .before .before .before .before .before .before .before .before .before .before .before .args) .nodes .now) (((c .before .before .before .before .before .before .before .before .before .before .before .before .before .before .before .before .before .before .args) .used) + 1) 0 ((c .before .before .before .before .before .before .before .before .before .before .before .before .before .before .before .before .before .before .pre) .0 .formed) (omega (arith, f2 .room)) 47 refl refl ((sym ((c .before .before .before .before .before .before .before .expect-next2) .ensures)) ∙ (c .before .before .before .before .before .f) .given .1) in
+    let f1 = word-fine ((c .before .before .before .before .before .before .before .before .before .before .before .before .before .before .before .before .before .before .args) .stream .now) (ranks k) 0 (readers ((c .before .before .before .before .before .before .before .before .before .before .before .before .before .before .before .before .before .before .args) .stream .now) (ranks k) h) (hold 0 0 none) again ((c .before .before .before .before .before .before .before .before .before .before .before .before .before .before .before .before .before .before .args) .c) ((c .before .before .before .before .before .before .before .before .before .before .before .before .before .before .before .before .before .before .args) .nodes .now) (((c .before .before .before .before .before .before .before .before .before .before .before .before .before .before .before .before .before .before .args) .used) + 1) 0 (((c .before .before .before .before .before .before .before .before .before .before .before .before .before .before .before .before .before .before .pre) .0) .formed) (omega (arith, ((c .before .before .before .before .before .before .before .before .before .before .before .before .before .before .before .before .before .before .pre) .0) .room)) 47 refl refl ((sym ((c .before .before .before .before .before .before .before .before .before .before .before .before .before .before .before .expect-next) .ensures)) ∙ (c .before .before .before .before .before .before .before .before .before .before .before .before .before .d) .given .1) in
+    let f2 = name-fine ((c .before .before .before .before .before .before .before .before .before .before .before .before .before .before .before .before .before .before .args) .stream .now) (ranks k) 0 (readers ((c .before .before .before .before .before .before .before .before .before .before .before .before .before .before .before .before .before .before .args) .stream .now) (ranks k) h) (hold 0 0 none) again ((c .before .before .before .before .before .before .before .before .before .before .before .before .before .d) .given .0 .1 .0) ((c .before .before .before .before .before .before .before .before .before .before .before .before .before .before .before .before .before .before .args) .nodes .now) (((c .before .before .before .before .before .before .before .before .before .before .before .before .before .before .before .before .before .before .args) .used) + 1) 0 (((c .before .before .before .before .before .before .before .before .before .before .before .before .before .before .before .before .before .before .pre) .0) .formed) (omega (arith, f1 .room)) ((sym ((c .before .before .before .before .before .before .before .before .before .before .before .expect-name) .ensures)) ∙ (c .before .before .before .before .before .before .before .before .before .t) .given .1) in
+    let f3 = weigh-fine ((c .before .before .before .before .before .before .before .before .before .before .before .before .before .before .before .before .before .before .args) .stream .now) (ranks k) 0 (readers ((c .before .before .before .before .before .before .before .before .before .before .before .before .before .before .before .before .before .before .args) .stream .now) (ranks k) h) (hold 0 0 none) again ((c .before .before .before .before .before .before .before .before .before .t) .given .0 .1 .0) ((c .before .before .before .before .before .before .before .before .before .before .before .before .before .before .before .before .before .before .args) .nodes .now) (((c .before .before .before .before .before .before .before .before .before .before .before .before .before .before .before .before .before .before .args) .used) + 1) 0 (paid (took-name ((c .before .before .before .before .before .before .before .before .before .before .before .before .before .before .before .before .before .before .args) .stream .now) ((c .before .before .before .before .before .before .before .before .before .before .before .before .before .d) .given .0 .1 .0) ((sym ((c .before .before .before .before .before .before .before .before .before .before .before .expect-name) .ensures)) ∙ (c .before .before .before .before .before .before .before .before .before .t) .given .1))) (f2 .at) (f2 .room) in
+    let f4 = word-fine ((c .before .before .before .before .before .before .before .before .before .before .before .before .before .before .before .before .before .before .args) .stream .now) (ranks k) 0 (readers ((c .before .before .before .before .before .before .before .before .before .before .before .before .before .before .before .before .before .before .args) .stream .now) (ranks k) h) (hold 0 0 none) again ((c .before .before .before .before .before .before .before .before .before .t) .given .0 .1 .0) ((c .before .before .before .before .before .before .before .before .before .before .before .before .before .before .before .before .before .before .args) .nodes .now) (((c .before .before .before .before .before .before .before .before .before .before .before .before .before .before .before .before .before .before .args) .used) + 1) 0 (((c .before .before .before .before .before .before .before .before .before .before .before .before .before .before .before .before .before .before .pre) .0) .formed) (omega (arith, f2 .room)) 47 refl refl ((sym ((c .before .before .before .before .before .before .before .expect-next2) .ensures)) ∙ (c .before .before .before .before .before .f) .given .1) in
     rw ((c .before .before .close) .ensures .0) (over 12 opening (((c .before .before .before .before .before .before .before .before .before .before .before .before .before .before .before .before .before .before .args) .c) .place) ((c .before .before .before .before .before .before .before .before .before .before .before .before .before .before .before .before .before .before .args) .line) (revalue (omega arith) (both _ f1 (both _ f2 (both (read ((c .before .before .before .before .before .before .before .before .before .before .before .before .before .before .before .before .before .before .args) .stream .now) (ranks k) 0 (readers ((c .before .before .before .before .before .before .before .before .before .before .before .before .before .before .before .before .before .before .args) .stream .now) (ranks k) h) (hold 0 0 none) (word 47) again) f3 f4 (omega arith)) (omega arith)) (omega arith))) ((c .before .before .close) .ensures .1) ((c .before .before .before .before .before .before .before .before .before .before .before .before .before .before .before .before .before .before .pre) .1))
 
 pub label-spec : {M : Type 1} → statement M

@@ -8,7 +8,7 @@ use Rattle.grammar.specs.Reading.{read, hold}
 use Rattle.grammar.specs.Levels.{readers}
 use Rattle.parser.specs.Contract.{again}
 use Rattle.parser.proofs.Steps.{took-next}
-use Rattle.parser.proofs.Kit.{stop, onward}
+use Rattle.parser.proofs.Kit.{kept, stop, onward}
 use Rattle.parser.proofs.Tokens.{ready-after, any-fail, any-fine}
 use borrow.Author.Needs.{needs}
 use Rattle.parser.proofs.method_name.Statement.{statement}
@@ -32,7 +32,7 @@ enum-known-d c = search needs
 
 -- src/lib.rt:260:29
 name-requires : tie.Need-name-requires
-name-requires c κs = ready-after ((c .before .before .before .before .before .before .before .args) .used) 3 ((c .before .before .before .before .before .before .before .pre) .formed) (took-next ((c .before .before .before .before .before .before .before .args) .stream .now) ((c .before .before .before .before .before .before .before .args) .c) ((sym ((c .before .before .before .before .take-next) .ensures)) ∙ (c .before .before .d) .given .1)) (omega (arith, (c .before .before .before .before .before .before .before .pre) .room))
+name-requires c κs = ready-after ((c .before .before .before .before .before .before .before .pre) .formed) (took-next ((c .before .before .before .before .before .before .before .args) .stream .now) ((c .before .before .before .before .before .before .before .args) .c) ((sym ((c .before .before .before .before .take-next) .ensures)) ∙ (c .before .before .d) .given .1)) (omega (arith, (c .before .before .before .before .before .before .before .pre) .room))
 
 -- src/lib.rt:254:1
 returns : tie.Need-returns
@@ -41,7 +41,7 @@ returns c = λ k h. stop _ (any-fail ((c .before .before .before .before .before
 
 -- src/lib.rt:254:1
 same-length : tie.Need-same-length
-same-length c = search needs
+same-length c = (c .before .before .name) .kept .1 .0
 
 -- src/lib.rt:254:1
 returns-2 : tie.Need-returns-2

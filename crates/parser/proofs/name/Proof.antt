@@ -9,7 +9,7 @@ use Rattle.grammar.specs.Levels.{readers}
 use Rattle.grammar.specs.Productions.{named}
 use Rattle.parser.specs.Contract.{again}
 use Rattle.parser.proofs.Steps.{took-name}
-use Rattle.parser.proofs.Kit.{stop}
+use Rattle.parser.proofs.Kit.{kept, stop}
 use Rattle.parser.proofs.Tokens.{name-fail, name-says, leaf-after}
 use borrow.Author.Needs.{needs}
 use Rattle.parser.proofs.name.Statement.{statement}
@@ -46,7 +46,7 @@ returns c = λ k h. stop _ (name-fail ((c .before .before .before .before .befor
 
 -- src/lib.rt:90:1
 same-length : tie.Need-same-length
-same-length c = search needs
+same-length c = (c .before .before .put) .kept .0
 
 -- src/lib.rt:90:1
 returns-2 : tie.Need-returns-2

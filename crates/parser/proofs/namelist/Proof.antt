@@ -1,16 +1,12 @@
 use borrow.Author.Needs.{needs}
-use mathlib.Core.Path.{_∙_}
+use mathlib.Core.Path.{ap, _∙_}
 use Prim.Native.Nat.{_-_}
 use native.Mathlib.Omega.{arith}
-use Rattle.operators.specs.Ranks.{ranks}
 use Rattle.operators.specs.declared.Ranking.the-variants.{Crate}
 use Rattle.tree.specs.Forest.{none}
-use Rattle.grammar.specs.Reading.{read, hold, last}
-use Rattle.grammar.specs.Levels.{readers}
-use Rattle.parser.specs.Contract.{again}
-use Rattle.parser.specs.Parts as P
+use Rattle.grammar.specs.Reading.{read, add}
 use Rattle.stream.proofs.Words.{few}
-use Rattle.parser.proofs.Kit.{revalue, kept, weighs, stop, past, both}
+use Rattle.parser.proofs.Kit.{kept, ready-at, revalue, weighed, stop, past, both}
 use borrow.Author.Needs.{needs}
 use Rattle.parser.proofs.namelist.Statement.{statement}
 use Rattle.parser.proofs.namelist.Tie as tie
@@ -33,7 +29,7 @@ enum-known-d c = search needs
 
 -- src/lib.rt:144:35
 names-requires : tie.Need-names-requires
-names-requires c κs = let f1 = rw ((c .before .before .d) .given .1) at ((c .before .before .before .before .before .before .name) .ensures Crate 0) in record { formed = (c .before .before .before .before .before .before .before .before .before .before .pre) .formed; at = f1 .at; room = f1 .room }
+names-requires c κs = ready-at ((c .before .before .before .before .before .before .before .before .before .before .pre) .formed) (rw ((c .before .before .d) .given .1) at ((c .before .before .before .before .before .before .name) .ensures Crate 0)) (omega arith)
 
 -- src/lib.rt:145:23
 enum-known-e-2 : tie.Need-enum-known-e-2
@@ -68,8 +64,7 @@ unfolding read
 returns-2 c =
     λ k h.
     let f1 = rw ((c .before .before .before .before .before .before .before .before .d) .given .1) at ((c .before .before .before .before .before .before .before .before .before .before .before .before .name) .ensures k h) in
-    let w = weighs {s = ((c .before .before .before .before .before .before .before .before .before .before .before .before .before .before .before .before .args) .stream .now)} ((c .before .before .before .before .before .before .before .before .before .before .before .before .name) .last .1 .0) ((c .before .before .before .before .before .before .before .before .d) .given .0 .1 .0) 0 1 ((c .before .before .before .before .before .before .before .before .d) .given .0 .0) (f1 .at) (f1 .room) in
-    past _ f1 (past (read ((c .before .before .before .before .before .before .before .before .before .before .before .before .before .before .before .before .args) .stream .now) (ranks k) 0 (readers ((c .before .before .before .before .before .before .before .before .before .before .before .before .before .before .before .before .args) .stream .now) (ranks k) h) (hold 0 0 none) P.names again) w (rw ((c .before .e2) .given .1) at ((c .before .before .before .before .before .names) .ensures k h)))
+    past _ f1 (ap (add none 1) (rw ((c .before .e2) .given .1) at ((c .before .before .before .before .before .names) .ensures k h)))
 
 -- src/lib.rt:138:1
 same-length-3 : tie.Need-same-length-3
@@ -81,9 +76,8 @@ unfolding read
 returns-3 c =
     λ k h.
     let f1 = rw ((c .before .before .before .before .before .before .before .before .d) .given .1) at ((c .before .before .before .before .before .before .before .before .before .before .before .before .name) .ensures k h) in
-    let w = weighs {s = ((c .before .before .before .before .before .before .before .before .before .before .before .before .before .before .before .before .args) .stream .now)} ((c .before .before .before .before .before .before .before .before .before .before .before .before .name) .last .1 .0) ((c .before .before .before .before .before .before .before .before .d) .given .0 .1 .0) 0 1 ((c .before .before .before .before .before .before .before .before .d) .given .0 .0) (f1 .at) (f1 .room) in
     let y = rw ((c .before .e3) .given .1) at ((c .before .before .before .before .before .names) .ensures k h) in
-    (revalue (omega arith) (both _ f1 (both (read ((c .before .before .before .before .before .before .before .before .before .before .before .before .before .before .before .before .args) .stream .now) (ranks k) 0 (readers ((c .before .before .before .before .before .before .before .before .before .before .before .before .before .before .before .before .args) .stream .now) (ranks k) h) (hold 0 0 none) P.names again) w (y .0) (omega arith)) (omega arith)), omega (arith, y .1, f1 .later))
+    (revalue (omega arith) (both _ f1 (weighed 1 (y .0)) (omega arith)), omega (arith, y .1, f1 .later))
 
 pub namelist-spec : {M : Type 1} → statement M
 namelist-spec =

@@ -13,16 +13,16 @@ use Rattle.tree.specs.Forest.{none}
 use Rattle.grammar.specs.Reading.{read, hold, loop}
 use Rattle.grammar.specs.Levels.{readers}
 use Rattle.grammar.specs.Term.{check}
-use Rattle.grammar.specs.Term.{empty, any, plus, _⨾_, on}
+use Rattle.grammar.specs.Term.{empty, any, plus, _⨾_, on, iter}
 use Rattle.grammar.specs.Term.{again as again′}
 use Rattle.grammar.specs.Productions.{nameleaf}
 use Rattle.parser.specs.Contract.{says, under}
 use Rattle.parser.specs.Parts as P
 use Rattle.stream.proofs.Words.{few}
-use Rattle.parser.proofs.Steps.{taken, took-next}
-use Rattle.parser.proofs.Kit.{revalue, kept, looked, weighs, stop, past, both, Going, begin, going-length, fails, ends, turns}
-use Rattle.parser.proofs.Tokens.{ready-after, looping, any-fail, any-fine, checked-in, checked-out, check-place}
-use Rattle.grammar.specs.Term.{check, on, empty}
+use Rattle.parser.proofs.Steps.{took-next, check-in, check-out, check-place}
+use Rattle.parser.proofs.Kit.{kept, revalue, looked, weighs, Going, begin, going-length, fails, ends, turns, stop, past, both}
+use Rattle.parser.proofs.Tokens.{ready-after, any-fail, any-fine}
+use Rattle.parser.proofs.Around.{looping}
 use Rattle.parser.proofs.names.Statement.{statement}
 use Rattle.parser.proofs.names.Tie as tie
 use Rattle.parser.proofs.names.Reads as reads
@@ -52,11 +52,7 @@ same-length c = going-length (((c .before .before .before .loop) .inv) .4 Crate 
 -- src/lib.rt:116:13
 returns : tie.Need-returns Inv-loop μ-loop
 unfolding read
-returns c =
-    let b = few ((c .before .before .before .before .before .before .args) .stream .now) (((c .before .before .before .loop) .inv) .0) in
-    λ k h.
-    let g = ((c .before .before .before .loop) .inv) .4 k h in
-    (revalue (omega arith) (ends g (looked _ ((c .before .before .before .loop) .u) 0 ((c .before .before .before .loop) .at) (((c .before .before .check-ahead) .result) .cursor) (looping ((c .before .before .before .before .before .before .args) .stream .now) k 0 h 0 (on check (48 ∷ []) ((any ⨾ nameleaf ⨾ plus 1) ⨾ again′) empty) refl ((c .before .before .before .loop) .at) (((c .before .before .before .loop) .inv) .1) ∙ checked-out ((c .before .before .before .before .before .before .args) .stream .now) (ranks k) 0 (readers ((c .before .before .before .before .before .before .args) .stream .now) (ranks k) h) (hold 0 0 none) (under ((c .before .before .before .before .before .before .args) .stream .now) k 0 h 0 P.names) ((c .before .before .before .loop) .at) ((c .before .before .check-ahead) .result) 48 ((any ⨾ nameleaf ⨾ plus 1) ⨾ again′) empty (λ z. omega arith) ((c .before .before .check-ahead) .ensures) (not-true (((c .before .before .check-ahead) .result) .found) ((c .if1) .taken))) (check-place ((c .before .before .before .before .before .before .args) .stream .now) ((c .before .before .before .loop) .at) 0 48 ((c .before .before .check-ahead) .ensures)) (((c .before .before .before .loop) .inv) .1) (((c .before .before .before .loop) .inv) .2)) (omega arith)), omega (arith, (check-place ((c .before .before .before .before .before .before .args) .stream .now) ((c .before .before .before .loop) .at) 0 48 ((c .before .before .check-ahead) .ensures)), ((c .before .before .before .loop) .inv) .3))
+returns c = λ k h. (revalue (omega arith) (ends (((c .before .before .before .loop) .inv) .4 k h) (looked _ ((c .before .before .before .loop) .u) 0 ((c .before .before .before .loop) .at) (((c .before .before .check-ahead) .result) .cursor) (looping ((c .before .before .before .before .before .before .args) .stream .now) k 0 h 0 (on check (48 ∷ []) ((any ⨾ nameleaf ⨾ plus 1) ⨾ again′) empty) refl ((c .before .before .before .loop) .at) (((c .before .before .before .loop) .inv) .1) ∙ check-out ((c .before .before .before .before .before .before .args) .stream .now) (ranks k) 0 (readers ((c .before .before .before .before .before .before .args) .stream .now) (ranks k) h) (hold 0 0 none) (under ((c .before .before .before .before .before .before .args) .stream .now) k 0 h 0 (iter (on check (48 ∷ []) ((any ⨾ nameleaf ⨾ plus 1) ⨾ again′) empty))) ((c .before .before .before .loop) .at) 48 ((any ⨾ nameleaf ⨾ plus 1) ⨾ again′) empty (λ z. omega arith) ((c .before .before .check-ahead) .ensures) (not-true (((c .before .before .check-ahead) .result) .found) ((c .if1) .taken))) (check-place ((c .before .before .before .before .before .before .args) .stream .now) ((c .before .before .before .loop) .at) 0 48 ((c .before .before .check-ahead) .ensures)) (((c .before .before .before .loop) .inv) .1) (((c .before .before .before .loop) .inv) .2)) (omega arith)), omega (arith, (check-place ((c .before .before .before .before .before .before .args) .stream .now) ((c .before .before .before .loop) .at) 0 48 ((c .before .before .check-ahead) .ensures)), ((c .before .before .before .loop) .inv) .3))
 
 -- src/lib.rt:118:23
 take-next-requires : tie.Need-take-next-requires Inv-loop μ-loop
@@ -77,14 +73,11 @@ same-length-2 c = going-length (((c .before .before .before .before .before .bef
 -- src/lib.rt:121:17
 returns-2 : tie.Need-returns-2 Inv-loop μ-loop
 unfolding read
-returns-2 c =
-    λ k h.
-    let g = ((c .before .before .before .before .before .before .before .loop) .inv) .4 k h in
-    fails g (looping ((c .before .before .before .before .before .before .before .before .before .before .args) .stream .now) k 0 h 0 (on check (48 ∷ []) ((any ⨾ nameleaf ⨾ plus 1) ⨾ again′) empty) refl ((c .before .before .before .before .before .before .before .loop) .at) (((c .before .before .before .before .before .before .before .loop) .inv) .1) ∙ checked-in ((c .before .before .before .before .before .before .before .before .before .before .args) .stream .now) (ranks k) 0 (readers ((c .before .before .before .before .before .before .before .before .before .before .args) .stream .now) (ranks k) h) (hold 0 0 none) (under ((c .before .before .before .before .before .before .before .before .before .before .args) .stream .now) k 0 h 0 P.names) ((c .before .before .before .before .before .before .before .loop) .at) ((c .before .before .before .before .before .before .check-ahead) .result) 48 ((any ⨾ nameleaf ⨾ plus 1) ⨾ again′) empty (λ z. omega arith) ((c .before .before .before .before .before .before .check-ahead) .ensures) (not-false (((c .before .before .before .before .before .before .check-ahead) .result) .found) ((c .before .before .before .before .if1) .left)) ∙ stop _ (stop _ (any-fail ((c .before .before .before .before .before .before .before .before .before .before .args) .stream .now) (ranks k) 0 (readers ((c .before .before .before .before .before .before .before .before .before .before .args) .stream .now) (ranks k) h) (hold 0 0 none) (under ((c .before .before .before .before .before .before .before .before .before .before .args) .stream .now) k 0 h 0 P.names) (((c .before .before .before .before .before .before .check-ahead) .result) .cursor) ((sym ((c .before .before .before .take-next) .ensures)) ∙ (c .before .e2) .given .1))))
+returns-2 c = λ k h. fails (((c .before .before .before .before .before .before .before .loop) .inv) .4 k h) ((looping ((c .before .before .before .before .before .before .before .before .before .before .args) .stream .now) k 0 h 0 (on check (48 ∷ []) ((any ⨾ nameleaf ⨾ plus 1) ⨾ again′) empty) refl ((c .before .before .before .before .before .before .before .loop) .at) (((c .before .before .before .before .before .before .before .loop) .inv) .1) ∙ check-in ((c .before .before .before .before .before .before .before .before .before .before .args) .stream .now) (ranks k) 0 (readers ((c .before .before .before .before .before .before .before .before .before .before .args) .stream .now) (ranks k) h) (hold 0 0 none) (under ((c .before .before .before .before .before .before .before .before .before .before .args) .stream .now) k 0 h 0 (iter (on check (48 ∷ []) ((any ⨾ nameleaf ⨾ plus 1) ⨾ again′) empty))) ((c .before .before .before .before .before .before .before .loop) .at) 48 ((any ⨾ nameleaf ⨾ plus 1) ⨾ again′) empty (λ z. omega arith) ((c .before .before .before .before .before .before .check-ahead) .ensures) (not-false (((c .before .before .before .before .before .before .check-ahead) .result) .found) ((c .before .before .before .before .if1) .left))) ∙ stop _ (stop _ (any-fail ((c .before .before .before .before .before .before .before .before .before .before .args) .stream .now) (ranks k) 0 (readers ((c .before .before .before .before .before .before .before .before .before .before .args) .stream .now) (ranks k) h) (hold 0 0 none) (under ((c .before .before .before .before .before .before .before .before .before .before .args) .stream .now) k 0 h 0 (iter (on check (48 ∷ []) ((any ⨾ nameleaf ⨾ plus 1) ⨾ again′) empty))) (((c .before .before .before .before .before .before .check-ahead) .result) .cursor) ((sym ((c .before .before .before .take-next) .ensures)) ∙ (c .before .e2) .given .1))))
 
 -- src/lib.rt:124:15
 name-requires : tie.Need-name-requires Inv-loop μ-loop
-name-requires c κs = ready-after ((c .before .before .before .before .before .before .before .before .loop) .u) 3 (((c .before .before .before .before .before .before .before .before .loop) .inv) .0) (took-next ((c .before .before .before .before .before .before .before .before .before .before .before .args) .stream .now) (((c .before .before .before .before .before .before .before .check-ahead) .result) .cursor) ((sym ((c .before .before .before .before .take-next) .ensures)) ∙ (c .before .before .e) .given .1)) (omega (arith, ((c .before .before .before .before .before .before .before .before .loop) .inv) .2, (check-place ((c .before .before .before .before .before .before .before .before .before .before .before .args) .stream .now) ((c .before .before .before .before .before .before .before .before .loop) .at) 0 48 ((c .before .before .before .before .before .before .before .check-ahead) .ensures))))
+name-requires c κs = ready-after (((c .before .before .before .before .before .before .before .before .loop) .inv) .0) (took-next ((c .before .before .before .before .before .before .before .before .before .before .before .args) .stream .now) (((c .before .before .before .before .before .before .before .check-ahead) .result) .cursor) ((sym ((c .before .before .before .before .take-next) .ensures)) ∙ (c .before .before .e) .given .1)) (omega (arith, ((c .before .before .before .before .before .before .before .before .loop) .inv) .2, (check-place ((c .before .before .before .before .before .before .before .before .before .before .before .args) .stream .now) ((c .before .before .before .before .before .before .before .before .loop) .at) 0 48 ((c .before .before .before .before .before .before .before .check-ahead) .ensures))))
 
 -- src/lib.rt:125:24
 enum-known-f : tie.Need-enum-known-f Inv-loop μ-loop
@@ -109,8 +102,8 @@ loop-again c =
       omega (arith, z .later, (took-next ((c .before .before .before .before .before .before .before .before .before .before .before .before .before .before .before .before .before .args) .stream .now) (((c .before .before .before .before .before .before .before .before .before .before .before .before .before .check-ahead) .result) .cursor) ((sym ((c .before .before .before .before .before .before .before .before .before .before .take-next) .ensures)) ∙ (c .before .before .before .before .before .before .before .before .e) .given .1)) .place, (check-place ((c .before .before .before .before .before .before .before .before .before .before .before .before .before .before .before .before .before .args) .stream .now) ((c .before .before .before .before .before .before .before .before .before .before .before .before .before .before .loop) .at) 0 48 ((c .before .before .before .before .before .before .before .before .before .before .before .before .before .check-ahead) .ensures)), ((c .before .before .before .before .before .before .before .before .before .before .before .before .before .before .loop) .inv) .3),
       λ k h.
           let f2 = rw ((c .before .f) .given .1) at ((c .before .before .before .before .before .name) .ensures k h) in
-          let f1 = any-fine ((c .before .before .before .before .before .before .before .before .before .before .before .before .before .before .before .before .before .args) .stream .now) (ranks k) 0 (readers ((c .before .before .before .before .before .before .before .before .before .before .before .before .before .before .before .before .before .args) .stream .now) (ranks k) h) (hold 0 0 none) (under ((c .before .before .before .before .before .before .before .before .before .before .before .before .before .before .before .before .before .args) .stream .now) k 0 h 0 P.names) (((c .before .before .before .before .before .before .before .before .before .before .before .before .before .check-ahead) .result) .cursor) ((c .before .before .before .before .before .before .before .before .before .before .before .before .before .before .loop) .nodes) ((c .before .before .before .before .before .before .before .before .before .before .before .before .before .before .loop) .u) 0 (((c .before .before .before .before .before .before .before .before .before .before .before .before .before .before .loop) .inv) .0) (omega (arith, ((c .before .before .before .before .before .before .before .before .before .before .before .before .before .before .loop) .inv) .2, (check-place ((c .before .before .before .before .before .before .before .before .before .before .before .before .before .before .before .before .before .args) .stream .now) ((c .before .before .before .before .before .before .before .before .before .before .before .before .before .before .loop) .at) 0 48 ((c .before .before .before .before .before .before .before .before .before .before .before .before .before .check-ahead) .ensures)))) ((sym ((c .before .before .before .before .before .before .before .before .before .before .take-next) .ensures)) ∙ (c .before .before .before .before .before .before .before .before .e) .given .1) in
-          turns (((c .before .before .before .before .before .before .before .before .before .before .before .before .before .before .loop) .inv) .4 k h) (looping ((c .before .before .before .before .before .before .before .before .before .before .before .before .before .before .before .before .before .args) .stream .now) k 0 h 0 (on check (48 ∷ []) ((any ⨾ nameleaf ⨾ plus 1) ⨾ again′) empty) refl ((c .before .before .before .before .before .before .before .before .before .before .before .before .before .before .loop) .at) (((c .before .before .before .before .before .before .before .before .before .before .before .before .before .before .loop) .inv) .1) ∙ checked-in ((c .before .before .before .before .before .before .before .before .before .before .before .before .before .before .before .before .before .args) .stream .now) (ranks k) 0 (readers ((c .before .before .before .before .before .before .before .before .before .before .before .before .before .before .before .before .before .args) .stream .now) (ranks k) h) (hold 0 0 none) (under ((c .before .before .before .before .before .before .before .before .before .before .before .before .before .before .before .before .before .args) .stream .now) k 0 h 0 P.names) ((c .before .before .before .before .before .before .before .before .before .before .before .before .before .before .loop) .at) ((c .before .before .before .before .before .before .before .before .before .before .before .before .before .check-ahead) .result) 48 ((any ⨾ nameleaf ⨾ plus 1) ⨾ again′) empty (λ z. omega arith) ((c .before .before .before .before .before .before .before .before .before .before .before .before .before .check-ahead) .ensures) (not-false (((c .before .before .before .before .before .before .before .before .before .before .before .before .before .check-ahead) .result) .found) ((c .before .before .before .before .before .before .before .before .before .before .before .if1) .left))) (both _ f1 (both _ f2 (weighs _ _ 0 1 _ (f2 .at) (f2 .room)) (omega arith)) (omega arith)) (omega (arith, (check-place ((c .before .before .before .before .before .before .before .before .before .before .before .before .before .before .before .before .before .args) .stream .now) ((c .before .before .before .before .before .before .before .before .before .before .before .before .before .before .loop) .at) 0 48 ((c .before .before .before .before .before .before .before .before .before .before .before .before .before .check-ahead) .ensures)))) (f2 .room),
+          let f1 = any-fine ((c .before .before .before .before .before .before .before .before .before .before .before .before .before .before .before .before .before .args) .stream .now) (ranks k) 0 (readers ((c .before .before .before .before .before .before .before .before .before .before .before .before .before .before .before .before .before .args) .stream .now) (ranks k) h) (hold 0 0 none) (under ((c .before .before .before .before .before .before .before .before .before .before .before .before .before .before .before .before .before .args) .stream .now) k 0 h 0 (iter (on check (48 ∷ []) ((any ⨾ nameleaf ⨾ plus 1) ⨾ again′) empty))) (((c .before .before .before .before .before .before .before .before .before .before .before .before .before .check-ahead) .result) .cursor) ((c .before .before .before .before .before .before .before .before .before .before .before .before .before .before .loop) .nodes) ((c .before .before .before .before .before .before .before .before .before .before .before .before .before .before .loop) .u) 0 (((c .before .before .before .before .before .before .before .before .before .before .before .before .before .before .loop) .inv) .0) (omega (arith, ((c .before .before .before .before .before .before .before .before .before .before .before .before .before .before .loop) .inv) .2, (check-place ((c .before .before .before .before .before .before .before .before .before .before .before .before .before .before .before .before .before .args) .stream .now) ((c .before .before .before .before .before .before .before .before .before .before .before .before .before .before .loop) .at) 0 48 ((c .before .before .before .before .before .before .before .before .before .before .before .before .before .check-ahead) .ensures)))) ((sym ((c .before .before .before .before .before .before .before .before .before .before .take-next) .ensures)) ∙ (c .before .before .before .before .before .before .before .before .e) .given .1) in
+          turns (((c .before .before .before .before .before .before .before .before .before .before .before .before .before .before .loop) .inv) .4 k h) (looping ((c .before .before .before .before .before .before .before .before .before .before .before .before .before .before .before .before .before .args) .stream .now) k 0 h 0 (on check (48 ∷ []) ((any ⨾ nameleaf ⨾ plus 1) ⨾ again′) empty) refl ((c .before .before .before .before .before .before .before .before .before .before .before .before .before .before .loop) .at) (((c .before .before .before .before .before .before .before .before .before .before .before .before .before .before .loop) .inv) .1) ∙ check-in ((c .before .before .before .before .before .before .before .before .before .before .before .before .before .before .before .before .before .args) .stream .now) (ranks k) 0 (readers ((c .before .before .before .before .before .before .before .before .before .before .before .before .before .before .before .before .before .args) .stream .now) (ranks k) h) (hold 0 0 none) (under ((c .before .before .before .before .before .before .before .before .before .before .before .before .before .before .before .before .before .args) .stream .now) k 0 h 0 (iter (on check (48 ∷ []) ((any ⨾ nameleaf ⨾ plus 1) ⨾ again′) empty))) ((c .before .before .before .before .before .before .before .before .before .before .before .before .before .before .loop) .at) 48 ((any ⨾ nameleaf ⨾ plus 1) ⨾ again′) empty (λ z. omega arith) ((c .before .before .before .before .before .before .before .before .before .before .before .before .before .check-ahead) .ensures) (not-false (((c .before .before .before .before .before .before .before .before .before .before .before .before .before .check-ahead) .result) .found) ((c .before .before .before .before .before .before .before .before .before .before .before .if1) .left))) (both _ f1 (both _ f2 (weighs _ _ 0 1 _ (f2 .at) (f2 .room)) (omega arith)) (omega arith)) (omega (arith, (check-place ((c .before .before .before .before .before .before .before .before .before .before .before .before .before .before .before .before .before .args) .stream .now) ((c .before .before .before .before .before .before .before .before .before .before .before .before .before .before .loop) .at) 0 48 ((c .before .before .before .before .before .before .before .before .before .before .before .before .before .check-ahead) .ensures)))) (f2 .room),
     )
 
 -- src/lib.rt:130:24
@@ -126,8 +119,8 @@ returns-3 : tie.Need-returns-3 Inv-loop μ-loop
 unfolding read
 returns-3 c =
     λ k h.
-    let f1 = any-fine ((c .before .before .before .before .before .before .before .before .before .before .before .before .before .before .before .before .before .args) .stream .now) (ranks k) 0 (readers ((c .before .before .before .before .before .before .before .before .before .before .before .before .before .before .before .before .before .args) .stream .now) (ranks k) h) (hold 0 0 none) (under ((c .before .before .before .before .before .before .before .before .before .before .before .before .before .before .before .before .before .args) .stream .now) k 0 h 0 P.names) (((c .before .before .before .before .before .before .before .before .before .before .before .before .before .check-ahead) .result) .cursor) ((c .before .before .before .before .before .before .before .before .before .before .before .before .before .before .loop) .nodes) ((c .before .before .before .before .before .before .before .before .before .before .before .before .before .before .loop) .u) 0 (((c .before .before .before .before .before .before .before .before .before .before .before .before .before .before .loop) .inv) .0) (omega (arith, ((c .before .before .before .before .before .before .before .before .before .before .before .before .before .before .loop) .inv) .2, (check-place ((c .before .before .before .before .before .before .before .before .before .before .before .before .before .before .before .before .before .args) .stream .now) ((c .before .before .before .before .before .before .before .before .before .before .before .before .before .before .loop) .at) 0 48 ((c .before .before .before .before .before .before .before .before .before .before .before .before .before .check-ahead) .ensures)))) ((sym ((c .before .before .before .before .before .before .before .before .before .before .take-next) .ensures)) ∙ (c .before .before .before .before .before .before .before .before .e) .given .1) in
-    fails (((c .before .before .before .before .before .before .before .before .before .before .before .before .before .before .loop) .inv) .4 k h) (looping ((c .before .before .before .before .before .before .before .before .before .before .before .before .before .before .before .before .before .args) .stream .now) k 0 h 0 (on check (48 ∷ []) ((any ⨾ nameleaf ⨾ plus 1) ⨾ again′) empty) refl ((c .before .before .before .before .before .before .before .before .before .before .before .before .before .before .loop) .at) (((c .before .before .before .before .before .before .before .before .before .before .before .before .before .before .loop) .inv) .1) ∙ checked-in ((c .before .before .before .before .before .before .before .before .before .before .before .before .before .before .before .before .before .args) .stream .now) (ranks k) 0 (readers ((c .before .before .before .before .before .before .before .before .before .before .before .before .before .before .before .before .before .args) .stream .now) (ranks k) h) (hold 0 0 none) (under ((c .before .before .before .before .before .before .before .before .before .before .before .before .before .before .before .before .before .args) .stream .now) k 0 h 0 P.names) ((c .before .before .before .before .before .before .before .before .before .before .before .before .before .before .loop) .at) ((c .before .before .before .before .before .before .before .before .before .before .before .before .before .check-ahead) .result) 48 ((any ⨾ nameleaf ⨾ plus 1) ⨾ again′) empty (λ z. omega arith) ((c .before .before .before .before .before .before .before .before .before .before .before .before .before .check-ahead) .ensures) (not-false (((c .before .before .before .before .before .before .before .before .before .before .before .before .before .check-ahead) .result) .found) ((c .before .before .before .before .before .before .before .before .before .before .before .if1) .left)) ∙ stop _ (past _ f1 (stop _ (rw ((c .before .e3) .given .1) at ((c .before .before .before .before .before .name) .ensures k h)))))
+    let f1 = any-fine ((c .before .before .before .before .before .before .before .before .before .before .before .before .before .before .before .before .before .args) .stream .now) (ranks k) 0 (readers ((c .before .before .before .before .before .before .before .before .before .before .before .before .before .before .before .before .before .args) .stream .now) (ranks k) h) (hold 0 0 none) (under ((c .before .before .before .before .before .before .before .before .before .before .before .before .before .before .before .before .before .args) .stream .now) k 0 h 0 (iter (on check (48 ∷ []) ((any ⨾ nameleaf ⨾ plus 1) ⨾ again′) empty))) (((c .before .before .before .before .before .before .before .before .before .before .before .before .before .check-ahead) .result) .cursor) ((c .before .before .before .before .before .before .before .before .before .before .before .before .before .before .loop) .nodes) ((c .before .before .before .before .before .before .before .before .before .before .before .before .before .before .loop) .u) 0 (((c .before .before .before .before .before .before .before .before .before .before .before .before .before .before .loop) .inv) .0) (omega (arith, ((c .before .before .before .before .before .before .before .before .before .before .before .before .before .before .loop) .inv) .2, (check-place ((c .before .before .before .before .before .before .before .before .before .before .before .before .before .before .before .before .before .args) .stream .now) ((c .before .before .before .before .before .before .before .before .before .before .before .before .before .before .loop) .at) 0 48 ((c .before .before .before .before .before .before .before .before .before .before .before .before .before .check-ahead) .ensures)))) ((sym ((c .before .before .before .before .before .before .before .before .before .before .take-next) .ensures)) ∙ (c .before .before .before .before .before .before .before .before .e) .given .1) in
+    fails (((c .before .before .before .before .before .before .before .before .before .before .before .before .before .before .loop) .inv) .4 k h) ((looping ((c .before .before .before .before .before .before .before .before .before .before .before .before .before .before .before .before .before .args) .stream .now) k 0 h 0 (on check (48 ∷ []) ((any ⨾ nameleaf ⨾ plus 1) ⨾ again′) empty) refl ((c .before .before .before .before .before .before .before .before .before .before .before .before .before .before .loop) .at) (((c .before .before .before .before .before .before .before .before .before .before .before .before .before .before .loop) .inv) .1) ∙ check-in ((c .before .before .before .before .before .before .before .before .before .before .before .before .before .before .before .before .before .args) .stream .now) (ranks k) 0 (readers ((c .before .before .before .before .before .before .before .before .before .before .before .before .before .before .before .before .before .args) .stream .now) (ranks k) h) (hold 0 0 none) (under ((c .before .before .before .before .before .before .before .before .before .before .before .before .before .before .before .before .before .args) .stream .now) k 0 h 0 (iter (on check (48 ∷ []) ((any ⨾ nameleaf ⨾ plus 1) ⨾ again′) empty))) ((c .before .before .before .before .before .before .before .before .before .before .before .before .before .before .loop) .at) 48 ((any ⨾ nameleaf ⨾ plus 1) ⨾ again′) empty (λ z. omega arith) ((c .before .before .before .before .before .before .before .before .before .before .before .before .before .check-ahead) .ensures) (not-false (((c .before .before .before .before .before .before .before .before .before .before .before .before .before .check-ahead) .result) .found) ((c .before .before .before .before .before .before .before .before .before .before .before .if1) .left))) ∙ stop _ (past _ f1 (stop _ (rw ((c .before .e3) .given .1) at ((c .before .before .before .before .before .name) .ensures k h)))))
 
 pub names-spec : {M : Type 1} → statement M
 names-spec =

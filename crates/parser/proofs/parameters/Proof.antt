@@ -17,10 +17,11 @@ use Rattle.grammar.specs.Term.{empty, any, leaf, plus, _⨾_, refuse}
 use Rattle.grammar.specs.Term.{again as again′}
 use Rattle.parser.specs.Contract.{says, under}
 use Rattle.stream.proofs.Words.{few, token-next}
-use Rattle.parser.proofs.Steps.{taken, took-next, next-fail, next-in, next-out}
-use Rattle.parser.proofs.Kit.{alter, revalue, kept, looked, weighs, stop, both, Going, begin, going-length, fails, ends, revalue-going, goes}
-use Rattle.parser.proofs.Tokens.{looping, any-fail, any-fine, leaf-fine, checked-in, checked-out, check-place}
-use Rattle.parser.proofs.Looks.{got-again, take-fails, take-gets, take-takes, refused, raise, one, other}
+use Rattle.parser.proofs.Steps.{took-next, check-in, check-out, check-place}
+use Rattle.parser.proofs.Kit.{kept, lower, alter, revalue, looked, weighs, Going, begin, revalue-going, going-length, fails, ends, goes, stop, both}
+use Rattle.parser.proofs.Tokens.{paid, any-fail, any-fine, leaf-fine}
+use Rattle.parser.proofs.Looks.{take-fails, take-gets, take-takes, refused, by-none, by-kind, by-others}
+use Rattle.parser.proofs.Around.{looping}
 use Rattle.grammar.specs.Productions.{parlist}
 use Rattle.stream.specs.Reader.{readAhead}
 use Rattle.parser.proofs.parameters.Statement.{statement}
@@ -57,7 +58,7 @@ same-length c = going-length (((c .before .before .before .before .loop) .inv) .
 -- src/lib.rt:163:17
 returns : tie.Need-returns Inv-loop μ-loop
 unfolding read parlist
-returns c = λ k h. fails (((c .before .before .before .before .loop) .inv) .4 k h) (looping ((c .before .before .before .before .before .before .before .args) .stream .now) k 0 h 0 (58 ⇒ (any ⨾ leaf 30 ⨾ plus 2 ⨾ (opt check (48 ∷ []) (any ⨾ again′))) ∣ 36 ⇒ (any ⨾ plus 1) ∣ refuse 63) refl ((c .before .before .before .before .loop) .at) (((c .before .before .before .before .loop) .inv) .1) ∙ next-fail ((c .before .before .before .before .before .before .before .args) .stream .now) (ranks k) 0 (readers ((c .before .before .before .before .before .before .before .args) .stream .now) (ranks k) h) (hold 0 0 none) (under ((c .before .before .before .before .before .before .before .args) .stream .now) k 0 h 0 parlist) ((c .before .before .before .before .loop) .at) (58 ∷ []) (any ⨾ leaf 30 ⨾ plus 2 ⨾ (opt check (48 ∷ []) (any ⨾ again′))) (36 ⇒ (any ⨾ plus 1) ∣ refuse 63) (take-fails ((c .before .before .before .before .before .before .before .args) .stream .now) ((c .before .before .before .before .loop) .at) ((sym ((c .before .before .before .take-next) .ensures)) ∙ (c .before .e) .given .1)))
+returns c = λ k h. fails (((c .before .before .before .before .loop) .inv) .4 k h) (looping ((c .before .before .before .before .before .before .before .args) .stream .now) k 0 h 0 (58 ⇒ (any ⨾ leaf 30 ⨾ plus 2 ⨾ (opt check (48 ∷ []) (any ⨾ again′))) ∣ 36 ⇒ (any ⨾ plus 1) ∣ refuse 63) refl ((c .before .before .before .before .loop) .at) (((c .before .before .before .before .loop) .inv) .1) ∙ by-none ((c .before .before .before .before .before .before .before .args) .stream .now) (ranks k) 0 (readers ((c .before .before .before .before .before .before .before .args) .stream .now) (ranks k) h) (hold 0 0 none) (under ((c .before .before .before .before .before .before .before .args) .stream .now) k 0 h 0 parlist) ((c .before .before .before .before .loop) .at) (58, (any ⨾ leaf 30 ⨾ plus 2 ⨾ (opt check (48 ∷ []) (any ⨾ again′)))) ((36, (any ⨾ plus 1)) ∷ []) (refuse 63) (take-fails ((c .before .before .before .before .before .before .before .args) .stream .now) ((c .before .before .before .before .loop) .at) ((sym ((c .before .before .before .take-next) .ensures)) ∙ (c .before .e) .given .1)))
 
 -- src/lib.rt:165:24
 enum-known-t : tie.Need-enum-known-t Inv-loop μ-loop
@@ -78,8 +79,7 @@ returns-2 c =
     λ k h.
     let f1 = any-fine ((c .before .before .before .before .before .before .before .before .before .args) .stream .now) (ranks k) 0 (readers ((c .before .before .before .before .before .before .before .before .before .args) .stream .now) (ranks k) h) (hold 0 0 none) (under ((c .before .before .before .before .before .before .before .before .before .args) .stream .now) k 0 h 0 parlist) (readAhead ((c .before .before .before .before .before .before .before .before .before .args) .stream .now) ((c .before .before .before .before .before .before .loop) .at) 1) ((c .before .before .before .before .before .before .loop) .nodes) ((c .before .before .before .before .before .before .loop) .u) 0 (((c .before .before .before .before .before .before .loop) .inv) .0) (omega (arith, ((c .before .before .before .before .before .before .loop) .inv) .2)) (take-takes ((c .before .before .before .before .before .before .before .before .before .args) .stream .now) ((c .before .before .before .before .before .before .loop) .at) ((sym ((c .before .before .before .before .before .take-next) .ensures)) ∙ (c .before .before .before .t) .given .1)) in
     let f2 = both _ f1 (weighs _ _ 0 1 _ (f1 .at) (f1 .room)) (omega arith) in
-    let o = looping ((c .before .before .before .before .before .before .before .before .before .args) .stream .now) k 0 h 0 (58 ⇒ (any ⨾ leaf 30 ⨾ plus 2 ⨾ (opt check (48 ∷ []) (any ⨾ again′))) ∣ 36 ⇒ (any ⨾ plus 1) ∣ refuse 63) refl ((c .before .before .before .before .before .before .loop) .at) (((c .before .before .before .before .before .before .loop) .inv) .1) ∙ next-out ((c .before .before .before .before .before .before .before .before .before .args) .stream .now) (ranks k) 0 (readers ((c .before .before .before .before .before .before .before .before .before .args) .stream .now) (ranks k) h) (hold 0 0 none) (under ((c .before .before .before .before .before .before .before .before .before .args) .stream .now) k 0 h 0 parlist) ((c .before .before .before .before .before .before .loop) .at) (58 ∷ []) (any ⨾ leaf 30 ⨾ plus 2 ⨾ (opt check (48 ∷ []) (any ⨾ again′))) (36 ⇒ (any ⨾ plus 1) ∣ refuse 63) (take-gets ((c .before .before .before .before .before .before .before .before .before .args) .stream .now) ((c .before .before .before .before .before .before .loop) .at) ((sym ((c .before .before .before .before .before .take-next) .ensures)) ∙ (c .before .before .before .t) .given .1)) (other {x = (c .before .before .before .t) .given .0 .0 .kind} {k = 58} (λ q. omega (arith, (c .if1) .taken, q))) ∙ next-in ((c .before .before .before .before .before .before .before .before .before .args) .stream .now) (ranks k) 0 (readers ((c .before .before .before .before .before .before .before .before .before .args) .stream .now) (ranks k) h) (hold 0 0 none) (under ((c .before .before .before .before .before .before .before .before .before .args) .stream .now) k 0 h 0 parlist) (readAhead ((c .before .before .before .before .before .before .before .before .before .args) .stream .now) ((c .before .before .before .before .before .before .loop) .at) 1) (36 ∷ []) (any ⨾ plus 1) (refuse 63) (got-again ((c .before .before .before .before .before .before .before .before .before .args) .stream .now) ((c .before .before .before .before .before .before .loop) .at) (take-gets ((c .before .before .before .before .before .before .before .before .before .args) .stream .now) ((c .before .before .before .before .before .before .loop) .at) ((sym ((c .before .before .before .before .before .take-next) .ensures)) ∙ (c .before .before .before .t) .given .1))) (one ((c .if1) .taken)) in
-    (raise _ (ends (((c .before .before .before .before .before .before .loop) .inv) .4 k h) (alter o f2) (omega arith)) (omega (arith, ((c .before .before .before .before .before .before .loop) .inv) .4 k h .later, (took-next ((c .before .before .before .before .before .before .before .before .before .args) .stream .now) ((c .before .before .before .before .before .before .loop) .at) ((sym ((c .before .before .before .before .before .take-next) .ensures)) ∙ (c .before .before .before .t) .given .1)) .place)), omega (arith, (took-next ((c .before .before .before .before .before .before .before .before .before .args) .stream .now) ((c .before .before .before .before .before .before .loop) .at) ((sym ((c .before .before .before .before .before .take-next) .ensures)) ∙ (c .before .before .before .t) .given .1)) .place, ((c .before .before .before .before .before .before .loop) .inv) .3))
+    (lower _ (ends (((c .before .before .before .before .before .before .loop) .inv) .4 k h) (alter (looping ((c .before .before .before .before .before .before .before .before .before .args) .stream .now) k 0 h 0 (58 ⇒ (any ⨾ leaf 30 ⨾ plus 2 ⨾ (opt check (48 ∷ []) (any ⨾ again′))) ∣ 36 ⇒ (any ⨾ plus 1) ∣ refuse 63) refl ((c .before .before .before .before .before .before .loop) .at) (((c .before .before .before .before .before .before .loop) .inv) .1) ∙ by-kind ((c .before .before .before .before .before .before .before .before .before .args) .stream .now) (ranks k) 0 (readers ((c .before .before .before .before .before .before .before .before .before .args) .stream .now) (ranks k) h) (hold 0 0 none) (under ((c .before .before .before .before .before .before .before .before .before .args) .stream .now) k 0 h 0 parlist) ((c .before .before .before .before .before .before .loop) .at) (58, (any ⨾ leaf 30 ⨾ plus 2 ⨾ (opt check (48 ∷ []) (any ⨾ again′)))) ((36, (any ⨾ plus 1)) ∷ []) (refuse 63) (take-gets ((c .before .before .before .before .before .before .before .before .before .args) .stream .now) ((c .before .before .before .before .before .before .loop) .at) ((sym ((c .before .before .before .before .before .take-next) .ensures)) ∙ (c .before .before .before .t) .given .1)) ((c .if1) .taken)) f2) (omega arith)) (omega (arith, ((c .before .before .before .before .before .before .loop) .inv) .4 k h .later, (took-next ((c .before .before .before .before .before .before .before .before .before .args) .stream .now) ((c .before .before .before .before .before .before .loop) .at) ((sym ((c .before .before .before .before .before .take-next) .ensures)) ∙ (c .before .before .before .t) .given .1)) .place)), omega (arith, (took-next ((c .before .before .before .before .before .before .before .before .before .args) .stream .now) ((c .before .before .before .before .before .before .loop) .at) ((sym ((c .before .before .before .before .before .take-next) .ensures)) ∙ (c .before .before .before .t) .given .1)) .place, ((c .before .before .before .before .before .before .loop) .inv) .3))
 
 -- src/lib.rt:170:38
 refuse-requires : tie.Need-refuse-requires Inv-loop μ-loop
@@ -92,10 +92,7 @@ same-length-3 c = going-length (((c .before .before .before .before .before .bef
 -- src/lib.rt:170:21
 returns-3 : tie.Need-returns-3 Inv-loop μ-loop
 unfolding read parlist
-returns-3 c =
-    λ k h.
-    let n2 = (c .before .before .before .if1) .left in
-    fails (((c .before .before .before .before .before .before .before .before .before .loop) .inv) .4 k h) (looping ((c .before .before .before .before .before .before .before .before .before .before .before .before .args) .stream .now) k 0 h 0 (58 ⇒ (any ⨾ leaf 30 ⨾ plus 2 ⨾ (opt check (48 ∷ []) (any ⨾ again′))) ∣ 36 ⇒ (any ⨾ plus 1) ∣ refuse 63) refl ((c .before .before .before .before .before .before .before .before .before .loop) .at) (((c .before .before .before .before .before .before .before .before .before .loop) .inv) .1) ∙ next-out ((c .before .before .before .before .before .before .before .before .before .before .before .before .args) .stream .now) (ranks k) 0 (readers ((c .before .before .before .before .before .before .before .before .before .before .before .before .args) .stream .now) (ranks k) h) (hold 0 0 none) (under ((c .before .before .before .before .before .before .before .before .before .before .before .before .args) .stream .now) k 0 h 0 parlist) ((c .before .before .before .before .before .before .before .before .before .loop) .at) (58 ∷ []) (any ⨾ leaf 30 ⨾ plus 2 ⨾ (opt check (48 ∷ []) (any ⨾ again′))) (36 ⇒ (any ⨾ plus 1) ∣ refuse 63) (take-gets ((c .before .before .before .before .before .before .before .before .before .before .before .before .args) .stream .now) ((c .before .before .before .before .before .before .before .before .before .loop) .at) ((sym ((c .before .before .before .before .before .before .before .before .take-next) .ensures)) ∙ (c .before .before .before .before .before .before .t) .given .1)) (other ((c .before .if2) .taken)) ∙ next-out ((c .before .before .before .before .before .before .before .before .before .before .before .before .args) .stream .now) (ranks k) 0 (readers ((c .before .before .before .before .before .before .before .before .before .before .before .before .args) .stream .now) (ranks k) h) (hold 0 0 none) (under ((c .before .before .before .before .before .before .before .before .before .before .before .before .args) .stream .now) k 0 h 0 parlist) (readAhead ((c .before .before .before .before .before .before .before .before .before .before .before .before .args) .stream .now) ((c .before .before .before .before .before .before .before .before .before .loop) .at) 1) (36 ∷ []) (any ⨾ plus 1) (refuse 63) (got-again ((c .before .before .before .before .before .before .before .before .before .before .before .before .args) .stream .now) ((c .before .before .before .before .before .before .before .before .before .loop) .at) (take-gets ((c .before .before .before .before .before .before .before .before .before .before .before .before .args) .stream .now) ((c .before .before .before .before .before .before .before .before .before .loop) .at) ((sym ((c .before .before .before .before .before .before .before .before .take-next) .ensures)) ∙ (c .before .before .before .before .before .before .t) .given .1))) (other ((c .before .before .before .if1) .left)) ∙ refused ((c .before .before .before .before .before .before .before .before .before .before .before .before .args) .stream .now) (ranks k) 0 (readers ((c .before .before .before .before .before .before .before .before .before .before .before .before .args) .stream .now) (ranks k) h) (hold 0 0 none) (under ((c .before .before .before .before .before .before .before .before .before .before .before .before .args) .stream .now) k 0 h 0 parlist) (readAhead ((c .before .before .before .before .before .before .before .before .before .before .before .before .args) .stream .now) ((c .before .before .before .before .before .before .before .before .before .loop) .at) 1) 63 (got-again ((c .before .before .before .before .before .before .before .before .before .before .before .before .args) .stream .now) ((c .before .before .before .before .before .before .before .before .before .loop) .at) (take-gets ((c .before .before .before .before .before .before .before .before .before .before .before .before .args) .stream .now) ((c .before .before .before .before .before .before .before .before .before .loop) .at) ((sym ((c .before .before .before .before .before .before .before .before .take-next) .ensures)) ∙ (c .before .before .before .before .before .before .t) .given .1))) ∙ ap fail (sym ((c .refuse) .ensures)))
+returns-3 c = λ k h. fails (((c .before .before .before .before .before .before .before .before .before .loop) .inv) .4 k h) (looping ((c .before .before .before .before .before .before .before .before .before .before .before .before .args) .stream .now) k 0 h 0 (58 ⇒ (any ⨾ leaf 30 ⨾ plus 2 ⨾ (opt check (48 ∷ []) (any ⨾ again′))) ∣ 36 ⇒ (any ⨾ plus 1) ∣ refuse 63) refl ((c .before .before .before .before .before .before .before .before .before .loop) .at) (((c .before .before .before .before .before .before .before .before .before .loop) .inv) .1) ∙ by-others ((c .before .before .before .before .before .before .before .before .before .before .before .before .args) .stream .now) (ranks k) 0 (readers ((c .before .before .before .before .before .before .before .before .before .before .before .before .args) .stream .now) (ranks k) h) (hold 0 0 none) (under ((c .before .before .before .before .before .before .before .before .before .before .before .before .args) .stream .now) k 0 h 0 parlist) ((c .before .before .before .before .before .before .before .before .before .loop) .at) (58, (any ⨾ leaf 30 ⨾ plus 2 ⨾ (opt check (48 ∷ []) (any ⨾ again′)))) ((36, (any ⨾ plus 1)) ∷ []) (refuse 63) (take-gets ((c .before .before .before .before .before .before .before .before .before .before .before .before .args) .stream .now) ((c .before .before .before .before .before .before .before .before .before .loop) .at) ((sym ((c .before .before .before .before .before .before .before .before .take-next) .ensures)) ∙ (c .before .before .before .before .before .before .t) .given .1)) ((c .before .if2) .taken) ((c .before .before .before .if1) .left) ∙ refused ((c .before .before .before .before .before .before .before .before .before .before .before .before .args) .stream .now) (ranks k) 0 (readers ((c .before .before .before .before .before .before .before .before .before .before .before .before .args) .stream .now) (ranks k) h) (hold 0 0 none) (under ((c .before .before .before .before .before .before .before .before .before .before .before .before .args) .stream .now) k 0 h 0 parlist) ((c .before .before .before .before .before .before .before .before .before .loop) .at) 63 (take-gets ((c .before .before .before .before .before .before .before .before .before .before .before .before .args) .stream .now) ((c .before .before .before .before .before .before .before .before .before .loop) .at) ((sym ((c .before .before .before .before .before .before .before .before .take-next) .ensures)) ∙ (c .before .before .before .before .before .before .t) .given .1)) ∙ ap fail (sym ((c .refuse) .ensures)))
 
 -- src/lib.rt:172:17
 put-requires : tie.Need-put-requires Inv-loop μ-loop
@@ -123,13 +120,13 @@ unfolding read parlist
 returns-4 c =
     λ k h.
     let f1 = any-fine ((c .before .before .before .before .before .before .before .before .before .before .before .before .before .before .before .before .before .before .args) .stream .now) (ranks k) 0 (readers ((c .before .before .before .before .before .before .before .before .before .before .before .before .before .before .before .before .before .before .args) .stream .now) (ranks k) h) (hold 0 0 none) (under ((c .before .before .before .before .before .before .before .before .before .before .before .before .before .before .before .before .before .before .args) .stream .now) k 0 h 0 parlist) (readAhead ((c .before .before .before .before .before .before .before .before .before .before .before .before .before .before .before .before .before .before .args) .stream .now) ((c .before .before .before .before .before .before .before .before .before .before .before .before .before .before .before .loop) .at) 1) ((c .before .before .before .before .before .before .before .before .before .before .before .before .before .before .before .loop) .nodes) ((c .before .before .before .before .before .before .before .before .before .before .before .before .before .before .before .loop) .u) 0 (((c .before .before .before .before .before .before .before .before .before .before .before .before .before .before .before .loop) .inv) .0) (omega (arith, ((c .before .before .before .before .before .before .before .before .before .before .before .before .before .before .before .loop) .inv) .2)) (take-takes ((c .before .before .before .before .before .before .before .before .before .before .before .before .before .before .before .before .before .before .args) .stream .now) ((c .before .before .before .before .before .before .before .before .before .before .before .before .before .before .before .loop) .at) ((sym ((c .before .before .before .before .before .before .before .before .before .before .before .before .before .before .take-next) .ensures)) ∙ (c .before .before .before .before .before .before .before .before .before .before .before .before .t) .given .1)) in
-    let f2 = leaf-fine ((c .before .before .before .before .before .before .before .before .before .before .before .before .before .before .before .before .before .before .args) .stream .now) (ranks k) 0 (readers ((c .before .before .before .before .before .before .before .before .before .before .before .before .before .before .before .before .before .before .args) .stream .now) (ranks k) h) (hold 0 0 none) (under ((c .before .before .before .before .before .before .before .before .before .before .before .before .before .before .before .before .before .before .args) .stream .now) k 0 h 0 parlist) (readAhead ((c .before .before .before .before .before .before .before .before .before .before .before .before .before .before .before .before .before .before .args) .stream .now) ((c .before .before .before .before .before .before .before .before .before .before .before .before .before .before .before .loop) .at) 1) ((c .before .before .before .before .before .before .before .before .before .before .before .before .before .before .before .loop) .nodes) ((c .before .before .before .before .before .before .before .before .before .before .before .before .before .before .before .loop) .u) 0 30 (took-next ((c .before .before .before .before .before .before .before .before .before .before .before .before .before .before .before .before .before .before .args) .stream .now) (readAhead ((c .before .before .before .before .before .before .before .before .before .before .before .before .before .before .before .before .before .before .args) .stream .now) ((c .before .before .before .before .before .before .before .before .before .before .before .before .before .before .before .loop) .at) 1) (take-takes ((c .before .before .before .before .before .before .before .before .before .before .before .before .before .before .before .before .before .before .args) .stream .now) ((c .before .before .before .before .before .before .before .before .before .before .before .before .before .before .before .loop) .at) ((sym ((c .before .before .before .before .before .before .before .before .before .before .before .before .before .before .take-next) .ensures)) ∙ (c .before .before .before .before .before .before .before .before .before .before .before .before .t) .given .1))) (f1 .at) (omega (arith, (took-next ((c .before .before .before .before .before .before .before .before .before .before .before .before .before .before .before .before .before .before .args) .stream .now) ((c .before .before .before .before .before .before .before .before .before .before .before .before .before .before .before .loop) .at) ((sym ((c .before .before .before .before .before .before .before .before .before .before .before .before .before .before .take-next) .ensures)) ∙ (c .before .before .before .before .before .before .before .before .before .before .before .before .t) .given .1)) .place, ((c .before .before .before .before .before .before .before .before .before .before .before .before .before .before .before .loop) .inv) .2)) ((c .before .before .before .before .before .put) .ensures) in
+    let f2 = leaf-fine ((c .before .before .before .before .before .before .before .before .before .before .before .before .before .before .before .before .before .before .args) .stream .now) (ranks k) 0 (readers ((c .before .before .before .before .before .before .before .before .before .before .before .before .before .before .before .before .before .before .args) .stream .now) (ranks k) h) (hold 0 0 none) (under ((c .before .before .before .before .before .before .before .before .before .before .before .before .before .before .before .before .before .before .args) .stream .now) k 0 h 0 parlist) ((c .before .before .before .before .before .before .before .before .before .before .before .before .t) .given .0 .1 .0) ((c .before .before .before .before .before .before .before .before .before .before .before .before .before .before .before .loop) .nodes) ((c .before .before .before .before .before .before .before .before .before .before .before .before .before .before .before .loop) .u) 0 (paid (took-next ((c .before .before .before .before .before .before .before .before .before .before .before .before .before .before .before .before .before .before .args) .stream .now) ((c .before .before .before .before .before .before .before .before .before .before .before .before .before .before .before .loop) .at) ((sym ((c .before .before .before .before .before .before .before .before .before .before .before .before .before .before .take-next) .ensures)) ∙ (c .before .before .before .before .before .before .before .before .before .before .before .before .t) .given .1))) (f1 .at) 30 refl (omega (arith, (took-next ((c .before .before .before .before .before .before .before .before .before .before .before .before .before .before .before .before .before .before .args) .stream .now) ((c .before .before .before .before .before .before .before .before .before .before .before .before .before .before .before .loop) .at) ((sym ((c .before .before .before .before .before .before .before .before .before .before .before .before .before .before .take-next) .ensures)) ∙ (c .before .before .before .before .before .before .before .before .before .before .before .before .t) .given .1)) .place, ((c .before .before .before .before .before .before .before .before .before .before .before .before .before .before .before .loop) .inv) .2)) ((c .before .before .before .before .before .put) .ensures) in
     let w = weighs {s = ((c .before .before .before .before .before .before .before .before .before .before .before .before .before .before .before .before .before .before .args) .stream .now)} ((c .before .before .before .before .before .put) .last .0) (((c .before .before .before .before .before .before .before .before .before .before .before .before .before .before .before .loop) .u) + 1) 0 2 ((c .before .before .before .before .before .before .before .before .before .before .before .before .t) .given .0 .1 .0) (f1 .at) (f2 .room) in
-    let f4 = looked {s = ((c .before .before .before .before .before .before .before .before .before .before .before .before .before .before .before .before .before .before .args) .stream .now)} ((c .before .before .before .before .before .put) .last .0) (((c .before .before .before .before .before .before .before .before .before .before .before .before .before .before .before .loop) .u) + 1) 0 ((c .before .before .before .before .before .before .before .before .before .before .before .before .t) .given .0 .1 .0) (((c .before .before .check-ahead) .result) .cursor) (checked-out ((c .before .before .before .before .before .before .before .before .before .before .before .before .before .before .before .before .before .before .args) .stream .now) (ranks k) 0 (readers ((c .before .before .before .before .before .before .before .before .before .before .before .before .before .before .before .before .before .before .args) .stream .now) (ranks k) h) (hold 0 0 none) (under ((c .before .before .before .before .before .before .before .before .before .before .before .before .before .before .before .before .before .before .args) .stream .now) k 0 h 0 parlist) ((c .before .before .before .before .before .before .before .before .before .before .before .before .t) .given .0 .1 .0) ((c .before .before .check-ahead) .result) 48 (any ⨾ again′) empty (λ z. omega arith) ((c .before .before .check-ahead) .ensures) (not-true (((c .before .before .check-ahead) .result) .found) ((c .if3) .taken))) (check-place ((c .before .before .before .before .before .before .before .before .before .before .before .before .before .before .before .before .before .before .args) .stream .now) ((c .before .before .before .before .before .before .before .before .before .before .before .before .t) .given .0 .1 .0) 0 48 ((c .before .before .check-ahead) .ensures)) (f1 .at) (f2 .room) in
-    let g1 = goes (((c .before .before .before .before .before .before .before .before .before .before .before .before .before .before .before .loop) .inv) .4 k h) (read ((c .before .before .before .before .before .before .before .before .before .before .before .before .before .before .before .before .before .before .args) .stream .now) (ranks k) 0 (readers ((c .before .before .before .before .before .before .before .before .before .before .before .before .before .before .before .before .before .before .args) .stream .now) (ranks k) h) (hold 0 0 none) (leaf 30 ⨾ plus 2 ⨾ (opt check (48 ∷ []) (any ⨾ again′))) (under ((c .before .before .before .before .before .before .before .before .before .before .before .before .before .before .before .before .before .before .args) .stream .now) k 0 h 0 parlist)) (looping ((c .before .before .before .before .before .before .before .before .before .before .before .before .before .before .before .before .before .before .args) .stream .now) k 0 h 0 (58 ⇒ (any ⨾ leaf 30 ⨾ plus 2 ⨾ (opt check (48 ∷ []) (any ⨾ again′))) ∣ 36 ⇒ (any ⨾ plus 1) ∣ refuse 63) refl ((c .before .before .before .before .before .before .before .before .before .before .before .before .before .before .before .loop) .at) (((c .before .before .before .before .before .before .before .before .before .before .before .before .before .before .before .loop) .inv) .1) ∙ next-in ((c .before .before .before .before .before .before .before .before .before .before .before .before .before .before .before .before .before .before .args) .stream .now) (ranks k) 0 (readers ((c .before .before .before .before .before .before .before .before .before .before .before .before .before .before .before .before .before .before .args) .stream .now) (ranks k) h) (hold 0 0 none) (under ((c .before .before .before .before .before .before .before .before .before .before .before .before .before .before .before .before .before .before .args) .stream .now) k 0 h 0 parlist) ((c .before .before .before .before .before .before .before .before .before .before .before .before .before .before .before .loop) .at) (58 ∷ []) (any ⨾ leaf 30 ⨾ plus 2 ⨾ (opt check (48 ∷ []) (any ⨾ again′))) (36 ⇒ (any ⨾ plus 1) ∣ refuse 63) (take-gets ((c .before .before .before .before .before .before .before .before .before .before .before .before .before .before .before .before .before .before .args) .stream .now) ((c .before .before .before .before .before .before .before .before .before .before .before .before .before .before .before .loop) .at) ((sym ((c .before .before .before .before .before .before .before .before .before .before .before .before .before .before .take-next) .ensures)) ∙ (c .before .before .before .before .before .before .before .before .before .before .before .before .t) .given .1)) (one ((c .before .before .before .before .before .before .before .if2) .left))) f1 (omega arith) in
+    let g1 = goes (((c .before .before .before .before .before .before .before .before .before .before .before .before .before .before .before .loop) .inv) .4 k h) (read ((c .before .before .before .before .before .before .before .before .before .before .before .before .before .before .before .before .before .before .args) .stream .now) (ranks k) 0 (readers ((c .before .before .before .before .before .before .before .before .before .before .before .before .before .before .before .before .before .before .args) .stream .now) (ranks k) h) (hold 0 0 none) (leaf 30 ⨾ plus 2 ⨾ (opt check (48 ∷ []) (any ⨾ again′))) (under ((c .before .before .before .before .before .before .before .before .before .before .before .before .before .before .before .before .before .before .args) .stream .now) k 0 h 0 parlist)) (looping ((c .before .before .before .before .before .before .before .before .before .before .before .before .before .before .before .before .before .before .args) .stream .now) k 0 h 0 (58 ⇒ (any ⨾ leaf 30 ⨾ plus 2 ⨾ (opt check (48 ∷ []) (any ⨾ again′))) ∣ 36 ⇒ (any ⨾ plus 1) ∣ refuse 63) refl ((c .before .before .before .before .before .before .before .before .before .before .before .before .before .before .before .loop) .at) (((c .before .before .before .before .before .before .before .before .before .before .before .before .before .before .before .loop) .inv) .1) ∙ by-kind ((c .before .before .before .before .before .before .before .before .before .before .before .before .before .before .before .before .before .before .args) .stream .now) (ranks k) 0 (readers ((c .before .before .before .before .before .before .before .before .before .before .before .before .before .before .before .before .before .before .args) .stream .now) (ranks k) h) (hold 0 0 none) (under ((c .before .before .before .before .before .before .before .before .before .before .before .before .before .before .before .before .before .before .args) .stream .now) k 0 h 0 parlist) ((c .before .before .before .before .before .before .before .before .before .before .before .before .before .before .before .loop) .at) (58, (any ⨾ leaf 30 ⨾ plus 2 ⨾ (opt check (48 ∷ []) (any ⨾ again′)))) ((36, (any ⨾ plus 1)) ∷ []) (refuse 63) (take-gets ((c .before .before .before .before .before .before .before .before .before .before .before .before .before .before .before .before .before .before .args) .stream .now) ((c .before .before .before .before .before .before .before .before .before .before .before .before .before .before .before .loop) .at) ((sym ((c .before .before .before .before .before .before .before .before .before .before .before .before .before .before .take-next) .ensures)) ∙ (c .before .before .before .before .before .before .before .before .before .before .before .before .t) .given .1)) ((c .before .before .before .before .before .before .before .if2) .left)) f1 (omega arith) in
     let g2 = goes g1 (read ((c .before .before .before .before .before .before .before .before .before .before .before .before .before .before .before .before .before .before .args) .stream .now) (ranks k) 0 (readers ((c .before .before .before .before .before .before .before .before .before .before .before .before .before .before .before .before .before .before .args) .stream .now) (ranks k) h) (hold 0 0 none) (plus 2 ⨾ (opt check (48 ∷ []) (any ⨾ again′))) (under ((c .before .before .before .before .before .before .before .before .before .before .before .before .before .before .before .before .before .before .args) .stream .now) k 0 h 0 parlist)) refl f2 (omega arith) in
     let g3 = goes g2 (read ((c .before .before .before .before .before .before .before .before .before .before .before .before .before .before .before .before .before .before .args) .stream .now) (ranks k) 0 (readers ((c .before .before .before .before .before .before .before .before .before .before .before .before .before .before .before .before .before .before .args) .stream .now) (ranks k) h) (hold 0 0 none) (opt check (48 ∷ []) (any ⨾ again′)) (under ((c .before .before .before .before .before .before .before .before .before .before .before .before .before .before .before .before .before .before .args) .stream .now) k 0 h 0 parlist)) refl w (omega arith) in
-    (revalue (omega arith) (raise _ (ends g3 f4 (omega arith)) (omega (arith, ((c .before .before .before .before .before .before .before .before .before .before .before .before .before .before .before .loop) .inv) .4 k h .later, (took-next ((c .before .before .before .before .before .before .before .before .before .before .before .before .before .before .before .before .before .before .args) .stream .now) ((c .before .before .before .before .before .before .before .before .before .before .before .before .before .before .before .loop) .at) ((sym ((c .before .before .before .before .before .before .before .before .before .before .before .before .before .before .take-next) .ensures)) ∙ (c .before .before .before .before .before .before .before .before .before .before .before .before .t) .given .1)) .place, (check-place ((c .before .before .before .before .before .before .before .before .before .before .before .before .before .before .before .before .before .before .args) .stream .now) ((c .before .before .before .before .before .before .before .before .before .before .before .before .t) .given .0 .1 .0) 0 48 ((c .before .before .check-ahead) .ensures))))), omega (arith, (took-next ((c .before .before .before .before .before .before .before .before .before .before .before .before .before .before .before .before .before .before .args) .stream .now) ((c .before .before .before .before .before .before .before .before .before .before .before .before .before .before .before .loop) .at) ((sym ((c .before .before .before .before .before .before .before .before .before .before .before .before .before .before .take-next) .ensures)) ∙ (c .before .before .before .before .before .before .before .before .before .before .before .before .t) .given .1)) .place, (check-place ((c .before .before .before .before .before .before .before .before .before .before .before .before .before .before .before .before .before .before .args) .stream .now) ((c .before .before .before .before .before .before .before .before .before .before .before .before .t) .given .0 .1 .0) 0 48 ((c .before .before .check-ahead) .ensures)), ((c .before .before .before .before .before .before .before .before .before .before .before .before .before .before .before .loop) .inv) .3))
+    let f4 = looked {s = ((c .before .before .before .before .before .before .before .before .before .before .before .before .before .before .before .before .before .before .args) .stream .now)} ((c .before .before .before .before .before .put) .last .0) (((c .before .before .before .before .before .before .before .before .before .before .before .before .before .before .before .loop) .u) + 1) 0 ((c .before .before .before .before .before .before .before .before .before .before .before .before .t) .given .0 .1 .0) (((c .before .before .check-ahead) .result) .cursor) (check-out ((c .before .before .before .before .before .before .before .before .before .before .before .before .before .before .before .before .before .before .args) .stream .now) (ranks k) 0 (readers ((c .before .before .before .before .before .before .before .before .before .before .before .before .before .before .before .before .before .before .args) .stream .now) (ranks k) h) (hold 0 0 none) (under ((c .before .before .before .before .before .before .before .before .before .before .before .before .before .before .before .before .before .before .args) .stream .now) k 0 h 0 parlist) ((c .before .before .before .before .before .before .before .before .before .before .before .before .t) .given .0 .1 .0) 48 (any ⨾ again′) empty (λ z. omega arith) ((c .before .before .check-ahead) .ensures) (not-true (((c .before .before .check-ahead) .result) .found) ((c .if3) .taken))) (check-place ((c .before .before .before .before .before .before .before .before .before .before .before .before .before .before .before .before .before .before .args) .stream .now) ((c .before .before .before .before .before .before .before .before .before .before .before .before .t) .given .0 .1 .0) 0 48 ((c .before .before .check-ahead) .ensures)) (f1 .at) (f2 .room) in
+    (revalue (omega arith) (lower _ (ends g3 f4 (omega arith)) (omega (arith, ((c .before .before .before .before .before .before .before .before .before .before .before .before .before .before .before .loop) .inv) .4 k h .later, (took-next ((c .before .before .before .before .before .before .before .before .before .before .before .before .before .before .before .before .before .before .args) .stream .now) ((c .before .before .before .before .before .before .before .before .before .before .before .before .before .before .before .loop) .at) ((sym ((c .before .before .before .before .before .before .before .before .before .before .before .before .before .before .take-next) .ensures)) ∙ (c .before .before .before .before .before .before .before .before .before .before .before .before .t) .given .1)) .place, (check-place ((c .before .before .before .before .before .before .before .before .before .before .before .before .before .before .before .before .before .before .args) .stream .now) ((c .before .before .before .before .before .before .before .before .before .before .before .before .t) .given .0 .1 .0) 0 48 ((c .before .before .check-ahead) .ensures))))), omega (arith, (took-next ((c .before .before .before .before .before .before .before .before .before .before .before .before .before .before .before .before .before .before .args) .stream .now) ((c .before .before .before .before .before .before .before .before .before .before .before .before .before .before .before .loop) .at) ((sym ((c .before .before .before .before .before .before .before .before .before .before .before .before .before .before .take-next) .ensures)) ∙ (c .before .before .before .before .before .before .before .before .before .before .before .before .t) .given .1)) .place, (check-place ((c .before .before .before .before .before .before .before .before .before .before .before .before .before .before .before .before .before .before .args) .stream .now) ((c .before .before .before .before .before .before .before .before .before .before .before .before .t) .given .0 .1 .0) 0 48 ((c .before .before .check-ahead) .ensures)), ((c .before .before .before .before .before .before .before .before .before .before .before .before .before .before .before .loop) .inv) .3))
 
 -- src/lib.rt:181:23
 take-next-requires-2 : tie.Need-take-next-requires-2 Inv-loop μ-loop
@@ -149,12 +146,12 @@ unfolding read parlist
 returns-5 c =
     λ k h.
     let f1 = any-fine ((c .before .before .before .before .before .before .before .before .before .before .before .before .before .before .before .before .before .before .before .before .before .before .args) .stream .now) (ranks k) 0 (readers ((c .before .before .before .before .before .before .before .before .before .before .before .before .before .before .before .before .before .before .before .before .before .before .args) .stream .now) (ranks k) h) (hold 0 0 none) (under ((c .before .before .before .before .before .before .before .before .before .before .before .before .before .before .before .before .before .before .before .before .before .before .args) .stream .now) k 0 h 0 parlist) (readAhead ((c .before .before .before .before .before .before .before .before .before .before .before .before .before .before .before .before .before .before .before .before .before .before .args) .stream .now) ((c .before .before .before .before .before .before .before .before .before .before .before .before .before .before .before .before .before .before .before .loop) .at) 1) ((c .before .before .before .before .before .before .before .before .before .before .before .before .before .before .before .before .before .before .before .loop) .nodes) ((c .before .before .before .before .before .before .before .before .before .before .before .before .before .before .before .before .before .before .before .loop) .u) 0 (((c .before .before .before .before .before .before .before .before .before .before .before .before .before .before .before .before .before .before .before .loop) .inv) .0) (omega (arith, ((c .before .before .before .before .before .before .before .before .before .before .before .before .before .before .before .before .before .before .before .loop) .inv) .2)) (take-takes ((c .before .before .before .before .before .before .before .before .before .before .before .before .before .before .before .before .before .before .before .before .before .before .args) .stream .now) ((c .before .before .before .before .before .before .before .before .before .before .before .before .before .before .before .before .before .before .before .loop) .at) ((sym ((c .before .before .before .before .before .before .before .before .before .before .before .before .before .before .before .before .before .before .take-next) .ensures)) ∙ (c .before .before .before .before .before .before .before .before .before .before .before .before .before .before .before .before .t) .given .1)) in
-    let f2 = leaf-fine ((c .before .before .before .before .before .before .before .before .before .before .before .before .before .before .before .before .before .before .before .before .before .before .args) .stream .now) (ranks k) 0 (readers ((c .before .before .before .before .before .before .before .before .before .before .before .before .before .before .before .before .before .before .before .before .before .before .args) .stream .now) (ranks k) h) (hold 0 0 none) (under ((c .before .before .before .before .before .before .before .before .before .before .before .before .before .before .before .before .before .before .before .before .before .before .args) .stream .now) k 0 h 0 parlist) (readAhead ((c .before .before .before .before .before .before .before .before .before .before .before .before .before .before .before .before .before .before .before .before .before .before .args) .stream .now) ((c .before .before .before .before .before .before .before .before .before .before .before .before .before .before .before .before .before .before .before .loop) .at) 1) ((c .before .before .before .before .before .before .before .before .before .before .before .before .before .before .before .before .before .before .before .loop) .nodes) ((c .before .before .before .before .before .before .before .before .before .before .before .before .before .before .before .before .before .before .before .loop) .u) 0 30 (took-next ((c .before .before .before .before .before .before .before .before .before .before .before .before .before .before .before .before .before .before .before .before .before .before .args) .stream .now) (readAhead ((c .before .before .before .before .before .before .before .before .before .before .before .before .before .before .before .before .before .before .before .before .before .before .args) .stream .now) ((c .before .before .before .before .before .before .before .before .before .before .before .before .before .before .before .before .before .before .before .loop) .at) 1) (take-takes ((c .before .before .before .before .before .before .before .before .before .before .before .before .before .before .before .before .before .before .before .before .before .before .args) .stream .now) ((c .before .before .before .before .before .before .before .before .before .before .before .before .before .before .before .before .before .before .before .loop) .at) ((sym ((c .before .before .before .before .before .before .before .before .before .before .before .before .before .before .before .before .before .before .take-next) .ensures)) ∙ (c .before .before .before .before .before .before .before .before .before .before .before .before .before .before .before .before .t) .given .1))) (f1 .at) (omega (arith, (took-next ((c .before .before .before .before .before .before .before .before .before .before .before .before .before .before .before .before .before .before .before .before .before .before .args) .stream .now) ((c .before .before .before .before .before .before .before .before .before .before .before .before .before .before .before .before .before .before .before .loop) .at) ((sym ((c .before .before .before .before .before .before .before .before .before .before .before .before .before .before .before .before .before .before .take-next) .ensures)) ∙ (c .before .before .before .before .before .before .before .before .before .before .before .before .before .before .before .before .t) .given .1)) .place, ((c .before .before .before .before .before .before .before .before .before .before .before .before .before .before .before .before .before .before .before .loop) .inv) .2)) ((c .before .before .before .before .before .before .before .before .before .put) .ensures) in
+    let f2 = leaf-fine ((c .before .before .before .before .before .before .before .before .before .before .before .before .before .before .before .before .before .before .before .before .before .before .args) .stream .now) (ranks k) 0 (readers ((c .before .before .before .before .before .before .before .before .before .before .before .before .before .before .before .before .before .before .before .before .before .before .args) .stream .now) (ranks k) h) (hold 0 0 none) (under ((c .before .before .before .before .before .before .before .before .before .before .before .before .before .before .before .before .before .before .before .before .before .before .args) .stream .now) k 0 h 0 parlist) ((c .before .before .before .before .before .before .before .before .before .before .before .before .before .before .before .before .t) .given .0 .1 .0) ((c .before .before .before .before .before .before .before .before .before .before .before .before .before .before .before .before .before .before .before .loop) .nodes) ((c .before .before .before .before .before .before .before .before .before .before .before .before .before .before .before .before .before .before .before .loop) .u) 0 (paid (took-next ((c .before .before .before .before .before .before .before .before .before .before .before .before .before .before .before .before .before .before .before .before .before .before .args) .stream .now) ((c .before .before .before .before .before .before .before .before .before .before .before .before .before .before .before .before .before .before .before .loop) .at) ((sym ((c .before .before .before .before .before .before .before .before .before .before .before .before .before .before .before .before .before .before .take-next) .ensures)) ∙ (c .before .before .before .before .before .before .before .before .before .before .before .before .before .before .before .before .t) .given .1))) (f1 .at) 30 refl (omega (arith, (took-next ((c .before .before .before .before .before .before .before .before .before .before .before .before .before .before .before .before .before .before .before .before .before .before .args) .stream .now) ((c .before .before .before .before .before .before .before .before .before .before .before .before .before .before .before .before .before .before .before .loop) .at) ((sym ((c .before .before .before .before .before .before .before .before .before .before .before .before .before .before .before .before .before .before .take-next) .ensures)) ∙ (c .before .before .before .before .before .before .before .before .before .before .before .before .before .before .before .before .t) .given .1)) .place, ((c .before .before .before .before .before .before .before .before .before .before .before .before .before .before .before .before .before .before .before .loop) .inv) .2)) ((c .before .before .before .before .before .before .before .before .before .put) .ensures) in
     let w = weighs {s = ((c .before .before .before .before .before .before .before .before .before .before .before .before .before .before .before .before .before .before .before .before .before .before .args) .stream .now)} ((c .before .before .before .before .before .before .before .before .before .put) .last .0) (((c .before .before .before .before .before .before .before .before .before .before .before .before .before .before .before .before .before .before .before .loop) .u) + 1) 0 2 ((c .before .before .before .before .before .before .before .before .before .before .before .before .before .before .before .before .t) .given .0 .1 .0) (f1 .at) (f2 .room) in
-    let g1 = goes (((c .before .before .before .before .before .before .before .before .before .before .before .before .before .before .before .before .before .before .before .loop) .inv) .4 k h) (read ((c .before .before .before .before .before .before .before .before .before .before .before .before .before .before .before .before .before .before .before .before .before .before .args) .stream .now) (ranks k) 0 (readers ((c .before .before .before .before .before .before .before .before .before .before .before .before .before .before .before .before .before .before .before .before .before .before .args) .stream .now) (ranks k) h) (hold 0 0 none) (leaf 30 ⨾ plus 2 ⨾ (opt check (48 ∷ []) (any ⨾ again′))) (under ((c .before .before .before .before .before .before .before .before .before .before .before .before .before .before .before .before .before .before .before .before .before .before .args) .stream .now) k 0 h 0 parlist)) (looping ((c .before .before .before .before .before .before .before .before .before .before .before .before .before .before .before .before .before .before .before .before .before .before .args) .stream .now) k 0 h 0 (58 ⇒ (any ⨾ leaf 30 ⨾ plus 2 ⨾ (opt check (48 ∷ []) (any ⨾ again′))) ∣ 36 ⇒ (any ⨾ plus 1) ∣ refuse 63) refl ((c .before .before .before .before .before .before .before .before .before .before .before .before .before .before .before .before .before .before .before .loop) .at) (((c .before .before .before .before .before .before .before .before .before .before .before .before .before .before .before .before .before .before .before .loop) .inv) .1) ∙ next-in ((c .before .before .before .before .before .before .before .before .before .before .before .before .before .before .before .before .before .before .before .before .before .before .args) .stream .now) (ranks k) 0 (readers ((c .before .before .before .before .before .before .before .before .before .before .before .before .before .before .before .before .before .before .before .before .before .before .args) .stream .now) (ranks k) h) (hold 0 0 none) (under ((c .before .before .before .before .before .before .before .before .before .before .before .before .before .before .before .before .before .before .before .before .before .before .args) .stream .now) k 0 h 0 parlist) ((c .before .before .before .before .before .before .before .before .before .before .before .before .before .before .before .before .before .before .before .loop) .at) (58 ∷ []) (any ⨾ leaf 30 ⨾ plus 2 ⨾ (opt check (48 ∷ []) (any ⨾ again′))) (36 ⇒ (any ⨾ plus 1) ∣ refuse 63) (take-gets ((c .before .before .before .before .before .before .before .before .before .before .before .before .before .before .before .before .before .before .before .before .before .before .args) .stream .now) ((c .before .before .before .before .before .before .before .before .before .before .before .before .before .before .before .before .before .before .before .loop) .at) ((sym ((c .before .before .before .before .before .before .before .before .before .before .before .before .before .before .before .before .before .before .take-next) .ensures)) ∙ (c .before .before .before .before .before .before .before .before .before .before .before .before .before .before .before .before .t) .given .1)) (one ((c .before .before .before .before .before .before .before .before .before .before .before .if2) .left))) f1 (omega arith) in
+    let g1 = goes (((c .before .before .before .before .before .before .before .before .before .before .before .before .before .before .before .before .before .before .before .loop) .inv) .4 k h) (read ((c .before .before .before .before .before .before .before .before .before .before .before .before .before .before .before .before .before .before .before .before .before .before .args) .stream .now) (ranks k) 0 (readers ((c .before .before .before .before .before .before .before .before .before .before .before .before .before .before .before .before .before .before .before .before .before .before .args) .stream .now) (ranks k) h) (hold 0 0 none) (leaf 30 ⨾ plus 2 ⨾ (opt check (48 ∷ []) (any ⨾ again′))) (under ((c .before .before .before .before .before .before .before .before .before .before .before .before .before .before .before .before .before .before .before .before .before .before .args) .stream .now) k 0 h 0 parlist)) (looping ((c .before .before .before .before .before .before .before .before .before .before .before .before .before .before .before .before .before .before .before .before .before .before .args) .stream .now) k 0 h 0 (58 ⇒ (any ⨾ leaf 30 ⨾ plus 2 ⨾ (opt check (48 ∷ []) (any ⨾ again′))) ∣ 36 ⇒ (any ⨾ plus 1) ∣ refuse 63) refl ((c .before .before .before .before .before .before .before .before .before .before .before .before .before .before .before .before .before .before .before .loop) .at) (((c .before .before .before .before .before .before .before .before .before .before .before .before .before .before .before .before .before .before .before .loop) .inv) .1) ∙ by-kind ((c .before .before .before .before .before .before .before .before .before .before .before .before .before .before .before .before .before .before .before .before .before .before .args) .stream .now) (ranks k) 0 (readers ((c .before .before .before .before .before .before .before .before .before .before .before .before .before .before .before .before .before .before .before .before .before .before .args) .stream .now) (ranks k) h) (hold 0 0 none) (under ((c .before .before .before .before .before .before .before .before .before .before .before .before .before .before .before .before .before .before .before .before .before .before .args) .stream .now) k 0 h 0 parlist) ((c .before .before .before .before .before .before .before .before .before .before .before .before .before .before .before .before .before .before .before .loop) .at) (58, (any ⨾ leaf 30 ⨾ plus 2 ⨾ (opt check (48 ∷ []) (any ⨾ again′)))) ((36, (any ⨾ plus 1)) ∷ []) (refuse 63) (take-gets ((c .before .before .before .before .before .before .before .before .before .before .before .before .before .before .before .before .before .before .before .before .before .before .args) .stream .now) ((c .before .before .before .before .before .before .before .before .before .before .before .before .before .before .before .before .before .before .before .loop) .at) ((sym ((c .before .before .before .before .before .before .before .before .before .before .before .before .before .before .before .before .before .before .take-next) .ensures)) ∙ (c .before .before .before .before .before .before .before .before .before .before .before .before .before .before .before .before .t) .given .1)) ((c .before .before .before .before .before .before .before .before .before .before .before .if2) .left)) f1 (omega arith) in
     let g2 = goes g1 (read ((c .before .before .before .before .before .before .before .before .before .before .before .before .before .before .before .before .before .before .before .before .before .before .args) .stream .now) (ranks k) 0 (readers ((c .before .before .before .before .before .before .before .before .before .before .before .before .before .before .before .before .before .before .before .before .before .before .args) .stream .now) (ranks k) h) (hold 0 0 none) (plus 2 ⨾ (opt check (48 ∷ []) (any ⨾ again′))) (under ((c .before .before .before .before .before .before .before .before .before .before .before .before .before .before .before .before .before .before .before .before .before .before .args) .stream .now) k 0 h 0 parlist)) refl f2 (omega arith) in
     let g3 = goes g2 (read ((c .before .before .before .before .before .before .before .before .before .before .before .before .before .before .before .before .before .before .before .before .before .before .args) .stream .now) (ranks k) 0 (readers ((c .before .before .before .before .before .before .before .before .before .before .before .before .before .before .before .before .before .before .before .before .before .before .args) .stream .now) (ranks k) h) (hold 0 0 none) (opt check (48 ∷ []) (any ⨾ again′)) (under ((c .before .before .before .before .before .before .before .before .before .before .before .before .before .before .before .before .before .before .before .before .before .before .args) .stream .now) k 0 h 0 parlist)) refl w (omega arith) in
-    fails g3 (checked-in ((c .before .before .before .before .before .before .before .before .before .before .before .before .before .before .before .before .before .before .before .before .before .before .args) .stream .now) (ranks k) 0 (readers ((c .before .before .before .before .before .before .before .before .before .before .before .before .before .before .before .before .before .before .before .before .before .before .args) .stream .now) (ranks k) h) (hold 0 0 none) (under ((c .before .before .before .before .before .before .before .before .before .before .before .before .before .before .before .before .before .before .before .before .before .before .args) .stream .now) k 0 h 0 parlist) ((c .before .before .before .before .before .before .before .before .before .before .before .before .before .before .before .before .t) .given .0 .1 .0) ((c .before .before .before .before .before .before .check-ahead) .result) 48 (any ⨾ again′) empty (λ z. omega arith) ((c .before .before .before .before .before .before .check-ahead) .ensures) (not-false (((c .before .before .before .before .before .before .check-ahead) .result) .found) ((c .before .before .before .before .if3) .left)) ∙ stop _ (any-fail ((c .before .before .before .before .before .before .before .before .before .before .before .before .before .before .before .before .before .before .before .before .before .before .args) .stream .now) (ranks k) 0 (readers ((c .before .before .before .before .before .before .before .before .before .before .before .before .before .before .before .before .before .before .before .before .before .before .args) .stream .now) (ranks k) h) (hold 0 0 none) (under ((c .before .before .before .before .before .before .before .before .before .before .before .before .before .before .before .before .before .before .before .before .before .before .args) .stream .now) k 0 h 0 parlist) (((c .before .before .before .before .before .before .check-ahead) .result) .cursor) ((sym ((c .before .before .before .take-next2) .ensures)) ∙ (c .before .e3) .given .1)))
+    fails g3 (check-in ((c .before .before .before .before .before .before .before .before .before .before .before .before .before .before .before .before .before .before .before .before .before .before .args) .stream .now) (ranks k) 0 (readers ((c .before .before .before .before .before .before .before .before .before .before .before .before .before .before .before .before .before .before .before .before .before .before .args) .stream .now) (ranks k) h) (hold 0 0 none) (under ((c .before .before .before .before .before .before .before .before .before .before .before .before .before .before .before .before .before .before .before .before .before .before .args) .stream .now) k 0 h 0 parlist) ((c .before .before .before .before .before .before .before .before .before .before .before .before .before .before .before .before .t) .given .0 .1 .0) 48 (any ⨾ again′) empty (λ z. omega arith) ((c .before .before .before .before .before .before .check-ahead) .ensures) (not-false (((c .before .before .before .before .before .before .check-ahead) .result) .found) ((c .before .before .before .before .if3) .left)) ∙ stop _ (any-fail ((c .before .before .before .before .before .before .before .before .before .before .before .before .before .before .before .before .before .before .before .before .before .before .args) .stream .now) (ranks k) 0 (readers ((c .before .before .before .before .before .before .before .before .before .before .before .before .before .before .before .before .before .before .before .before .before .before .args) .stream .now) (ranks k) h) (hold 0 0 none) (under ((c .before .before .before .before .before .before .before .before .before .before .before .before .before .before .before .before .before .before .before .before .before .before .args) .stream .now) k 0 h 0 parlist) (((c .before .before .before .before .before .before .check-ahead) .result) .cursor) ((sym ((c .before .before .before .take-next2) .ensures)) ∙ (c .before .e3) .given .1)))
 
 -- src/lib.rt:185:35
 enum-known-f : tie.Need-enum-known-f Inv-loop μ-loop
@@ -177,13 +174,13 @@ loop-again c =
       omega (arith, (took-next ((c .before .before .before .before .before .before .before .before .before .before .before .before .before .before .before .before .before .before .before .before .before .before .args) .stream .now) (((c .before .before .before .before .before .before .check-ahead) .result) .cursor) ((sym ((c .before .before .before .take-next2) .ensures)) ∙ (c .before .f) .given .1)) .place, (took-next ((c .before .before .before .before .before .before .before .before .before .before .before .before .before .before .before .before .before .before .before .before .before .before .args) .stream .now) ((c .before .before .before .before .before .before .before .before .before .before .before .before .before .before .before .before .before .before .before .loop) .at) ((sym ((c .before .before .before .before .before .before .before .before .before .before .before .before .before .before .before .before .before .before .take-next) .ensures)) ∙ (c .before .before .before .before .before .before .before .before .before .before .before .before .before .before .before .before .t) .given .1)) .place, (check-place ((c .before .before .before .before .before .before .before .before .before .before .before .before .before .before .before .before .before .before .before .before .before .before .args) .stream .now) ((c .before .before .before .before .before .before .before .before .before .before .before .before .before .before .before .before .t) .given .0 .1 .0) 0 48 ((c .before .before .before .before .before .before .check-ahead) .ensures)), ((c .before .before .before .before .before .before .before .before .before .before .before .before .before .before .before .before .before .before .before .loop) .inv) .3),
       λ k h.
           let f1 = any-fine ((c .before .before .before .before .before .before .before .before .before .before .before .before .before .before .before .before .before .before .before .before .before .before .args) .stream .now) (ranks k) 0 (readers ((c .before .before .before .before .before .before .before .before .before .before .before .before .before .before .before .before .before .before .before .before .before .before .args) .stream .now) (ranks k) h) (hold 0 0 none) (under ((c .before .before .before .before .before .before .before .before .before .before .before .before .before .before .before .before .before .before .before .before .before .before .args) .stream .now) k 0 h 0 parlist) (readAhead ((c .before .before .before .before .before .before .before .before .before .before .before .before .before .before .before .before .before .before .before .before .before .before .args) .stream .now) ((c .before .before .before .before .before .before .before .before .before .before .before .before .before .before .before .before .before .before .before .loop) .at) 1) ((c .before .before .before .before .before .before .before .before .before .before .before .before .before .before .before .before .before .before .before .loop) .nodes) ((c .before .before .before .before .before .before .before .before .before .before .before .before .before .before .before .before .before .before .before .loop) .u) 0 (((c .before .before .before .before .before .before .before .before .before .before .before .before .before .before .before .before .before .before .before .loop) .inv) .0) (omega (arith, ((c .before .before .before .before .before .before .before .before .before .before .before .before .before .before .before .before .before .before .before .loop) .inv) .2)) (take-takes ((c .before .before .before .before .before .before .before .before .before .before .before .before .before .before .before .before .before .before .before .before .before .before .args) .stream .now) ((c .before .before .before .before .before .before .before .before .before .before .before .before .before .before .before .before .before .before .before .loop) .at) ((sym ((c .before .before .before .before .before .before .before .before .before .before .before .before .before .before .before .before .before .before .take-next) .ensures)) ∙ (c .before .before .before .before .before .before .before .before .before .before .before .before .before .before .before .before .t) .given .1)) in
-          let f2 = leaf-fine ((c .before .before .before .before .before .before .before .before .before .before .before .before .before .before .before .before .before .before .before .before .before .before .args) .stream .now) (ranks k) 0 (readers ((c .before .before .before .before .before .before .before .before .before .before .before .before .before .before .before .before .before .before .before .before .before .before .args) .stream .now) (ranks k) h) (hold 0 0 none) (under ((c .before .before .before .before .before .before .before .before .before .before .before .before .before .before .before .before .before .before .before .before .before .before .args) .stream .now) k 0 h 0 parlist) (readAhead ((c .before .before .before .before .before .before .before .before .before .before .before .before .before .before .before .before .before .before .before .before .before .before .args) .stream .now) ((c .before .before .before .before .before .before .before .before .before .before .before .before .before .before .before .before .before .before .before .loop) .at) 1) ((c .before .before .before .before .before .before .before .before .before .before .before .before .before .before .before .before .before .before .before .loop) .nodes) ((c .before .before .before .before .before .before .before .before .before .before .before .before .before .before .before .before .before .before .before .loop) .u) 0 30 (took-next ((c .before .before .before .before .before .before .before .before .before .before .before .before .before .before .before .before .before .before .before .before .before .before .args) .stream .now) (readAhead ((c .before .before .before .before .before .before .before .before .before .before .before .before .before .before .before .before .before .before .before .before .before .before .args) .stream .now) ((c .before .before .before .before .before .before .before .before .before .before .before .before .before .before .before .before .before .before .before .loop) .at) 1) (take-takes ((c .before .before .before .before .before .before .before .before .before .before .before .before .before .before .before .before .before .before .before .before .before .before .args) .stream .now) ((c .before .before .before .before .before .before .before .before .before .before .before .before .before .before .before .before .before .before .before .loop) .at) ((sym ((c .before .before .before .before .before .before .before .before .before .before .before .before .before .before .before .before .before .before .take-next) .ensures)) ∙ (c .before .before .before .before .before .before .before .before .before .before .before .before .before .before .before .before .t) .given .1))) (f1 .at) (omega (arith, (took-next ((c .before .before .before .before .before .before .before .before .before .before .before .before .before .before .before .before .before .before .before .before .before .before .args) .stream .now) ((c .before .before .before .before .before .before .before .before .before .before .before .before .before .before .before .before .before .before .before .loop) .at) ((sym ((c .before .before .before .before .before .before .before .before .before .before .before .before .before .before .before .before .before .before .take-next) .ensures)) ∙ (c .before .before .before .before .before .before .before .before .before .before .before .before .before .before .before .before .t) .given .1)) .place, ((c .before .before .before .before .before .before .before .before .before .before .before .before .before .before .before .before .before .before .before .loop) .inv) .2)) ((c .before .before .before .before .before .before .before .before .before .put) .ensures) in
+          let f2 = leaf-fine ((c .before .before .before .before .before .before .before .before .before .before .before .before .before .before .before .before .before .before .before .before .before .before .args) .stream .now) (ranks k) 0 (readers ((c .before .before .before .before .before .before .before .before .before .before .before .before .before .before .before .before .before .before .before .before .before .before .args) .stream .now) (ranks k) h) (hold 0 0 none) (under ((c .before .before .before .before .before .before .before .before .before .before .before .before .before .before .before .before .before .before .before .before .before .before .args) .stream .now) k 0 h 0 parlist) ((c .before .before .before .before .before .before .before .before .before .before .before .before .before .before .before .before .t) .given .0 .1 .0) ((c .before .before .before .before .before .before .before .before .before .before .before .before .before .before .before .before .before .before .before .loop) .nodes) ((c .before .before .before .before .before .before .before .before .before .before .before .before .before .before .before .before .before .before .before .loop) .u) 0 (paid (took-next ((c .before .before .before .before .before .before .before .before .before .before .before .before .before .before .before .before .before .before .before .before .before .before .args) .stream .now) ((c .before .before .before .before .before .before .before .before .before .before .before .before .before .before .before .before .before .before .before .loop) .at) ((sym ((c .before .before .before .before .before .before .before .before .before .before .before .before .before .before .before .before .before .before .take-next) .ensures)) ∙ (c .before .before .before .before .before .before .before .before .before .before .before .before .before .before .before .before .t) .given .1))) (f1 .at) 30 refl (omega (arith, (took-next ((c .before .before .before .before .before .before .before .before .before .before .before .before .before .before .before .before .before .before .before .before .before .before .args) .stream .now) ((c .before .before .before .before .before .before .before .before .before .before .before .before .before .before .before .before .before .before .before .loop) .at) ((sym ((c .before .before .before .before .before .before .before .before .before .before .before .before .before .before .before .before .before .before .take-next) .ensures)) ∙ (c .before .before .before .before .before .before .before .before .before .before .before .before .before .before .before .before .t) .given .1)) .place, ((c .before .before .before .before .before .before .before .before .before .before .before .before .before .before .before .before .before .before .before .loop) .inv) .2)) ((c .before .before .before .before .before .before .before .before .before .put) .ensures) in
           let w = weighs {s = ((c .before .before .before .before .before .before .before .before .before .before .before .before .before .before .before .before .before .before .before .before .before .before .args) .stream .now)} ((c .before .before .before .before .before .before .before .before .before .put) .last .0) (((c .before .before .before .before .before .before .before .before .before .before .before .before .before .before .before .before .before .before .before .loop) .u) + 1) 0 2 ((c .before .before .before .before .before .before .before .before .before .before .before .before .before .before .before .before .t) .given .0 .1 .0) (f1 .at) (f2 .room) in
-          let f4 = any-fine ((c .before .before .before .before .before .before .before .before .before .before .before .before .before .before .before .before .before .before .before .before .before .before .args) .stream .now) (ranks k) 0 (readers ((c .before .before .before .before .before .before .before .before .before .before .before .before .before .before .before .before .before .before .before .before .before .before .args) .stream .now) (ranks k) h) (hold 0 0 none) (under ((c .before .before .before .before .before .before .before .before .before .before .before .before .before .before .before .before .before .before .before .before .before .before .args) .stream .now) k 0 h 0 parlist) (((c .before .before .before .before .before .before .check-ahead) .result) .cursor) ((c .before .before .before .before .before .before .before .before .before .put) .last .0) (((c .before .before .before .before .before .before .before .before .before .before .before .before .before .before .before .before .before .before .before .loop) .u) + 1) 0 (((c .before .before .before .before .before .before .before .before .before .before .before .before .before .before .before .before .before .before .before .loop) .inv) .0) (omega (arith, (took-next ((c .before .before .before .before .before .before .before .before .before .before .before .before .before .before .before .before .before .before .before .before .before .before .args) .stream .now) ((c .before .before .before .before .before .before .before .before .before .before .before .before .before .before .before .before .before .before .before .loop) .at) ((sym ((c .before .before .before .before .before .before .before .before .before .before .before .before .before .before .before .before .before .before .take-next) .ensures)) ∙ (c .before .before .before .before .before .before .before .before .before .before .before .before .before .before .before .before .t) .given .1)) .place, (check-place ((c .before .before .before .before .before .before .before .before .before .before .before .before .before .before .before .before .before .before .before .before .before .before .args) .stream .now) ((c .before .before .before .before .before .before .before .before .before .before .before .before .before .before .before .before .t) .given .0 .1 .0) 0 48 ((c .before .before .before .before .before .before .check-ahead) .ensures)), ((c .before .before .before .before .before .before .before .before .before .before .before .before .before .before .before .before .before .before .before .loop) .inv) .2)) ((sym ((c .before .before .before .take-next2) .ensures)) ∙ (c .before .f) .given .1) in
-          let g1 = goes (((c .before .before .before .before .before .before .before .before .before .before .before .before .before .before .before .before .before .before .before .loop) .inv) .4 k h) (read ((c .before .before .before .before .before .before .before .before .before .before .before .before .before .before .before .before .before .before .before .before .before .before .args) .stream .now) (ranks k) 0 (readers ((c .before .before .before .before .before .before .before .before .before .before .before .before .before .before .before .before .before .before .before .before .before .before .args) .stream .now) (ranks k) h) (hold 0 0 none) (leaf 30 ⨾ plus 2 ⨾ (opt check (48 ∷ []) (any ⨾ again′))) (under ((c .before .before .before .before .before .before .before .before .before .before .before .before .before .before .before .before .before .before .before .before .before .before .args) .stream .now) k 0 h 0 parlist)) (looping ((c .before .before .before .before .before .before .before .before .before .before .before .before .before .before .before .before .before .before .before .before .before .before .args) .stream .now) k 0 h 0 (58 ⇒ (any ⨾ leaf 30 ⨾ plus 2 ⨾ (opt check (48 ∷ []) (any ⨾ again′))) ∣ 36 ⇒ (any ⨾ plus 1) ∣ refuse 63) refl ((c .before .before .before .before .before .before .before .before .before .before .before .before .before .before .before .before .before .before .before .loop) .at) (((c .before .before .before .before .before .before .before .before .before .before .before .before .before .before .before .before .before .before .before .loop) .inv) .1) ∙ next-in ((c .before .before .before .before .before .before .before .before .before .before .before .before .before .before .before .before .before .before .before .before .before .before .args) .stream .now) (ranks k) 0 (readers ((c .before .before .before .before .before .before .before .before .before .before .before .before .before .before .before .before .before .before .before .before .before .before .args) .stream .now) (ranks k) h) (hold 0 0 none) (under ((c .before .before .before .before .before .before .before .before .before .before .before .before .before .before .before .before .before .before .before .before .before .before .args) .stream .now) k 0 h 0 parlist) ((c .before .before .before .before .before .before .before .before .before .before .before .before .before .before .before .before .before .before .before .loop) .at) (58 ∷ []) (any ⨾ leaf 30 ⨾ plus 2 ⨾ (opt check (48 ∷ []) (any ⨾ again′))) (36 ⇒ (any ⨾ plus 1) ∣ refuse 63) (take-gets ((c .before .before .before .before .before .before .before .before .before .before .before .before .before .before .before .before .before .before .before .before .before .before .args) .stream .now) ((c .before .before .before .before .before .before .before .before .before .before .before .before .before .before .before .before .before .before .before .loop) .at) ((sym ((c .before .before .before .before .before .before .before .before .before .before .before .before .before .before .before .before .before .before .take-next) .ensures)) ∙ (c .before .before .before .before .before .before .before .before .before .before .before .before .before .before .before .before .t) .given .1)) (one ((c .before .before .before .before .before .before .before .before .before .before .before .if2) .left))) f1 (omega arith) in
+          let g1 = goes (((c .before .before .before .before .before .before .before .before .before .before .before .before .before .before .before .before .before .before .before .loop) .inv) .4 k h) (read ((c .before .before .before .before .before .before .before .before .before .before .before .before .before .before .before .before .before .before .before .before .before .before .args) .stream .now) (ranks k) 0 (readers ((c .before .before .before .before .before .before .before .before .before .before .before .before .before .before .before .before .before .before .before .before .before .before .args) .stream .now) (ranks k) h) (hold 0 0 none) (leaf 30 ⨾ plus 2 ⨾ (opt check (48 ∷ []) (any ⨾ again′))) (under ((c .before .before .before .before .before .before .before .before .before .before .before .before .before .before .before .before .before .before .before .before .before .before .args) .stream .now) k 0 h 0 parlist)) (looping ((c .before .before .before .before .before .before .before .before .before .before .before .before .before .before .before .before .before .before .before .before .before .before .args) .stream .now) k 0 h 0 (58 ⇒ (any ⨾ leaf 30 ⨾ plus 2 ⨾ (opt check (48 ∷ []) (any ⨾ again′))) ∣ 36 ⇒ (any ⨾ plus 1) ∣ refuse 63) refl ((c .before .before .before .before .before .before .before .before .before .before .before .before .before .before .before .before .before .before .before .loop) .at) (((c .before .before .before .before .before .before .before .before .before .before .before .before .before .before .before .before .before .before .before .loop) .inv) .1) ∙ by-kind ((c .before .before .before .before .before .before .before .before .before .before .before .before .before .before .before .before .before .before .before .before .before .before .args) .stream .now) (ranks k) 0 (readers ((c .before .before .before .before .before .before .before .before .before .before .before .before .before .before .before .before .before .before .before .before .before .before .args) .stream .now) (ranks k) h) (hold 0 0 none) (under ((c .before .before .before .before .before .before .before .before .before .before .before .before .before .before .before .before .before .before .before .before .before .before .args) .stream .now) k 0 h 0 parlist) ((c .before .before .before .before .before .before .before .before .before .before .before .before .before .before .before .before .before .before .before .loop) .at) (58, (any ⨾ leaf 30 ⨾ plus 2 ⨾ (opt check (48 ∷ []) (any ⨾ again′)))) ((36, (any ⨾ plus 1)) ∷ []) (refuse 63) (take-gets ((c .before .before .before .before .before .before .before .before .before .before .before .before .before .before .before .before .before .before .before .before .before .before .args) .stream .now) ((c .before .before .before .before .before .before .before .before .before .before .before .before .before .before .before .before .before .before .before .loop) .at) ((sym ((c .before .before .before .before .before .before .before .before .before .before .before .before .before .before .before .before .before .before .take-next) .ensures)) ∙ (c .before .before .before .before .before .before .before .before .before .before .before .before .before .before .before .before .t) .given .1)) ((c .before .before .before .before .before .before .before .before .before .before .before .if2) .left)) f1 (omega arith) in
           let g2 = goes g1 (read ((c .before .before .before .before .before .before .before .before .before .before .before .before .before .before .before .before .before .before .before .before .before .before .args) .stream .now) (ranks k) 0 (readers ((c .before .before .before .before .before .before .before .before .before .before .before .before .before .before .before .before .before .before .before .before .before .before .args) .stream .now) (ranks k) h) (hold 0 0 none) (plus 2 ⨾ (opt check (48 ∷ []) (any ⨾ again′))) (under ((c .before .before .before .before .before .before .before .before .before .before .before .before .before .before .before .before .before .before .before .before .before .before .args) .stream .now) k 0 h 0 parlist)) refl f2 (omega arith) in
           let g3 = goes g2 (read ((c .before .before .before .before .before .before .before .before .before .before .before .before .before .before .before .before .before .before .before .before .before .before .args) .stream .now) (ranks k) 0 (readers ((c .before .before .before .before .before .before .before .before .before .before .before .before .before .before .before .before .before .before .before .before .before .before .args) .stream .now) (ranks k) h) (hold 0 0 none) (opt check (48 ∷ []) (any ⨾ again′)) (under ((c .before .before .before .before .before .before .before .before .before .before .before .before .before .before .before .before .before .before .before .before .before .before .args) .stream .now) k 0 h 0 parlist)) refl w (omega arith) in
-          revalue-going (omega arith) (goes g3 (under ((c .before .before .before .before .before .before .before .before .before .before .before .before .before .before .before .before .before .before .before .before .before .before .args) .stream .now) k 0 h 0 parlist) (checked-in ((c .before .before .before .before .before .before .before .before .before .before .before .before .before .before .before .before .before .before .before .before .before .before .args) .stream .now) (ranks k) 0 (readers ((c .before .before .before .before .before .before .before .before .before .before .before .before .before .before .before .before .before .before .before .before .before .before .args) .stream .now) (ranks k) h) (hold 0 0 none) (under ((c .before .before .before .before .before .before .before .before .before .before .before .before .before .before .before .before .before .before .before .before .before .before .args) .stream .now) k 0 h 0 parlist) ((c .before .before .before .before .before .before .before .before .before .before .before .before .before .before .before .before .t) .given .0 .1 .0) ((c .before .before .before .before .before .before .check-ahead) .result) 48 (any ⨾ again′) empty (λ z. omega arith) ((c .before .before .before .before .before .before .check-ahead) .ensures) (not-false (((c .before .before .before .before .before .before .check-ahead) .result) .found) ((c .before .before .before .before .if3) .left))) f4 (omega (arith, (check-place ((c .before .before .before .before .before .before .before .before .before .before .before .before .before .before .before .before .before .before .before .before .before .before .args) .stream .now) ((c .before .before .before .before .before .before .before .before .before .before .before .before .before .before .before .before .t) .given .0 .1 .0) 0 48 ((c .before .before .before .before .before .before .check-ahead) .ensures))))),
+          let f4 = any-fine ((c .before .before .before .before .before .before .before .before .before .before .before .before .before .before .before .before .before .before .before .before .before .before .args) .stream .now) (ranks k) 0 (readers ((c .before .before .before .before .before .before .before .before .before .before .before .before .before .before .before .before .before .before .before .before .before .before .args) .stream .now) (ranks k) h) (hold 0 0 none) (under ((c .before .before .before .before .before .before .before .before .before .before .before .before .before .before .before .before .before .before .before .before .before .before .args) .stream .now) k 0 h 0 parlist) (((c .before .before .before .before .before .before .check-ahead) .result) .cursor) ((c .before .before .before .before .before .before .before .before .before .put) .last .0) (((c .before .before .before .before .before .before .before .before .before .before .before .before .before .before .before .before .before .before .before .loop) .u) + 1) 0 (((c .before .before .before .before .before .before .before .before .before .before .before .before .before .before .before .before .before .before .before .loop) .inv) .0) (omega (arith, (took-next ((c .before .before .before .before .before .before .before .before .before .before .before .before .before .before .before .before .before .before .before .before .before .before .args) .stream .now) ((c .before .before .before .before .before .before .before .before .before .before .before .before .before .before .before .before .before .before .before .loop) .at) ((sym ((c .before .before .before .before .before .before .before .before .before .before .before .before .before .before .before .before .before .before .take-next) .ensures)) ∙ (c .before .before .before .before .before .before .before .before .before .before .before .before .before .before .before .before .t) .given .1)) .place, (check-place ((c .before .before .before .before .before .before .before .before .before .before .before .before .before .before .before .before .before .before .before .before .before .before .args) .stream .now) ((c .before .before .before .before .before .before .before .before .before .before .before .before .before .before .before .before .t) .given .0 .1 .0) 0 48 ((c .before .before .before .before .before .before .check-ahead) .ensures)), ((c .before .before .before .before .before .before .before .before .before .before .before .before .before .before .before .before .before .before .before .loop) .inv) .2)) ((sym ((c .before .before .before .take-next2) .ensures)) ∙ (c .before .f) .given .1) in
+          revalue-going (omega arith) (goes g3 (under ((c .before .before .before .before .before .before .before .before .before .before .before .before .before .before .before .before .before .before .before .before .before .before .args) .stream .now) k 0 h 0 parlist) (check-in ((c .before .before .before .before .before .before .before .before .before .before .before .before .before .before .before .before .before .before .before .before .before .before .args) .stream .now) (ranks k) 0 (readers ((c .before .before .before .before .before .before .before .before .before .before .before .before .before .before .before .before .before .before .before .before .before .before .args) .stream .now) (ranks k) h) (hold 0 0 none) (under ((c .before .before .before .before .before .before .before .before .before .before .before .before .before .before .before .before .before .before .before .before .before .before .args) .stream .now) k 0 h 0 parlist) ((c .before .before .before .before .before .before .before .before .before .before .before .before .before .before .before .before .t) .given .0 .1 .0) 48 (any ⨾ again′) empty (λ z. omega arith) ((c .before .before .before .before .before .before .check-ahead) .ensures) (not-false (((c .before .before .before .before .before .before .check-ahead) .result) .found) ((c .before .before .before .before .if3) .left))) f4 (omega (arith, (check-place ((c .before .before .before .before .before .before .before .before .before .before .before .before .before .before .before .before .before .before .before .before .before .before .args) .stream .now) ((c .before .before .before .before .before .before .before .before .before .before .before .before .before .before .before .before .t) .given .0 .1 .0) 0 48 ((c .before .before .before .before .before .before .check-ahead) .ensures))))),
     )
 
 pub parameters-spec : {M : Type 1} → statement M

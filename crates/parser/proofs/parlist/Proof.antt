@@ -1,5 +1,5 @@
 use borrow.Author.Needs.{needs}
-use Prim.Native.Nat.{_+_, _-_}
+use Prim.Native.Nat.{_-_}
 use native.Mathlib.Omega.{arith}
 use Rattle.operators.specs.Ranks.{ranks}
 use Rattle.tree.specs.Forest.{none}
@@ -7,10 +7,8 @@ use Rattle.grammar.specs.Reading.{read, hold, last}
 use Rattle.grammar.specs.Levels.{readers}
 use Rattle.grammar.specs.Term.{empty}
 use Rattle.parser.specs.Contract.{again}
-use Rattle.parser.proofs.Steps.{taken}
-use Rattle.parser.proofs.Kit.{kept, looked, alter-sums}
-use Rattle.parser.proofs.Tokens.{checked-in, checked-out, check-place}
-use Rattle.parser.proofs.Looks.{lower-sums}
+use Rattle.parser.proofs.Steps.{check-in, check-out, check-place}
+use Rattle.parser.proofs.Kit.{kept, ready-seen, moved-sum, looked}
 use Rattle.grammar.specs.Productions.{parlist}
 use borrow.Author.Needs.{needs}
 use Rattle.parser.proofs.parlist.Statement.{statement}
@@ -26,12 +24,12 @@ check-ahead-requires c κs = search needs
 
 -- src/lib.rt:205:9
 parameters-requires : tie.Need-parameters-requires
-parameters-requires c κs = record { formed = (c .before .before .before .before .before .before .pre) .formed; at = omega (arith, (c .before .before .before .before .before .before .pre) .at, (check-place ((c .before .before .before .before .before .before .args) .stream .now) ((c .before .before .before .before .before .before .args) .c) 0 50 ((c .before .before .before .check-ahead) .ensures))); room = omega (arith, (c .before .before .before .before .before .before .pre) .room, (check-place ((c .before .before .before .before .before .before .args) .stream .now) ((c .before .before .before .before .before .before .args) .c) 0 50 ((c .before .before .before .check-ahead) .ensures))) }
+parameters-requires c κs = ready-seen (c .before .before .before .before .before .before .pre) (check-place ((c .before .before .before .before .before .before .args) .stream .now) ((c .before .before .before .before .before .before .args) .c) 0 50 ((c .before .before .before .check-ahead) .ensures))
 
 -- src/lib.rt:195:1
 returns : tie.Need-returns
 unfolding read
-returns c = λ k h. (looked ((c .before .before .before .before .before .args) .nodes .now) ((c .before .before .before .before .before .args) .used) 0 ((c .before .before .before .before .before .args) .c) (((c .before .before .check-ahead) .result) .cursor) (checked-in ((c .before .before .before .before .before .args) .stream .now) (ranks k) 0 (readers ((c .before .before .before .before .before .args) .stream .now) (ranks k) h) (hold 0 0 none) again ((c .before .before .before .before .before .args) .c) ((c .before .before .check-ahead) .result) 50 empty parlist (λ z. omega arith) ((c .before .before .check-ahead) .ensures) ((c .if1) .taken)) (check-place ((c .before .before .before .before .before .args) .stream .now) ((c .before .before .before .before .before .args) .c) 0 50 ((c .before .before .check-ahead) .ensures)) ((c .before .before .before .before .before .pre) .at) ((c .before .before .before .before .before .pre) .room), omega (arith, (check-place ((c .before .before .before .before .before .args) .stream .now) ((c .before .before .before .before .before .args) .c) 0 50 ((c .before .before .check-ahead) .ensures))))
+returns c = λ k h. (looked ((c .before .before .before .before .before .args) .nodes .now) ((c .before .before .before .before .before .args) .used) 0 ((c .before .before .before .before .before .args) .c) (((c .before .before .check-ahead) .result) .cursor) (check-in ((c .before .before .before .before .before .args) .stream .now) (ranks k) 0 (readers ((c .before .before .before .before .before .args) .stream .now) (ranks k) h) (hold 0 0 none) again ((c .before .before .before .before .before .args) .c) 50 empty parlist (λ z. omega arith) ((c .before .before .check-ahead) .ensures) ((c .if1) .taken)) (check-place ((c .before .before .before .before .before .args) .stream .now) ((c .before .before .before .before .before .args) .c) 0 50 ((c .before .before .check-ahead) .ensures)) ((c .before .before .before .before .before .pre) .at) ((c .before .before .before .before .before .pre) .room), omega (arith, (check-place ((c .before .before .before .before .before .args) .stream .now) ((c .before .before .before .before .before .args) .c) 0 50 ((c .before .before .check-ahead) .ensures))))
 
 -- src/lib.rt:195:1
 same-length : tie.Need-same-length
@@ -40,10 +38,7 @@ same-length c = (c .before .before .parameters) .kept .1 .0
 -- src/lib.rt:195:1
 returns-2 : tie.Need-returns-2
 unfolding read
-returns-2 c =
-    λ k h.
-    lower-sums ((c .before .before .before .before .before .before .before .before .before .args) .stream .now) (((c .before .before .before .before .before .before .check-ahead) .result) .cursor .place) (((c .before .before .before .before .before .before .check-ahead) .result) .cursor .place + 1) (((c .before .before .before .before .before .before .before .before .before .args) .c) .place) (((c .before .before .before .before .before .before .before .before .before .args) .c) .place) ((c .before .before .before .before .before .before .before .before .before .args) .used) 0 ((c .before .before .before .before .before .before .before .before .before .args) .nodes .now) ((c .before .before .parameters) .last .1 .0) _ ((c .before .before .parameters) .result) (omega (arith, (check-place ((c .before .before .before .before .before .before .before .before .before .args) .stream .now) ((c .before .before .before .before .before .before .before .before .before .args) .c) 0 50 ((c .before .before .before .before .before .before .check-ahead) .ensures)))) (omega (arith, (check-place ((c .before .before .before .before .before .before .before .before .before .args) .stream .now) ((c .before .before .before .before .before .before .before .before .before .args) .c) 0 50 ((c .before .before .before .before .before .before .check-ahead) .ensures))))
-    (alter-sums ((c .before .before .before .before .before .before .before .before .before .args) .stream .now) (((c .before .before .before .before .before .before .check-ahead) .result) .cursor .place) (((c .before .before .before .before .before .before .check-ahead) .result) .cursor .place + 1) ((c .before .before .before .before .before .before .before .before .before .args) .used) 0 ((c .before .before .before .before .before .before .before .before .before .args) .nodes .now) ((c .before .before .parameters) .last .1 .0) ((c .before .before .parameters) .result) (checked-out ((c .before .before .before .before .before .before .before .before .before .args) .stream .now) (ranks k) 0 (readers ((c .before .before .before .before .before .before .before .before .before .args) .stream .now) (ranks k) h) (hold 0 0 none) again ((c .before .before .before .before .before .before .before .before .before .args) .c) ((c .before .before .before .before .before .before .check-ahead) .result) 50 empty parlist (λ z. omega arith) ((c .before .before .before .before .before .before .check-ahead) .ensures) ((c .before .before .before .before .if1) .left)) ((c .before .before .parameters) .ensures k h))
+returns-2 c = λ k h. moved-sum ((c .before .before .before .before .before .before .before .before .before .args) .stream .now) ((c .before .before .before .before .before .before .before .before .before .args) .used) 0 ((c .before .before .before .before .before .before .before .before .before .args) .nodes .now) ((c .before .before .parameters) .last .1 .0) ((c .before .before .parameters) .result) (check-out ((c .before .before .before .before .before .before .before .before .before .args) .stream .now) (ranks k) 0 (readers ((c .before .before .before .before .before .before .before .before .before .args) .stream .now) (ranks k) h) (hold 0 0 none) again ((c .before .before .before .before .before .before .before .before .before .args) .c) 50 empty parlist (λ z. omega arith) ((c .before .before .before .before .before .before .check-ahead) .ensures) ((c .before .before .before .before .if1) .left)) (omega (arith, (check-place ((c .before .before .before .before .before .before .before .before .before .args) .stream .now) ((c .before .before .before .before .before .before .before .before .before .args) .c) 0 50 ((c .before .before .before .before .before .before .check-ahead) .ensures)))) (omega (arith, (check-place ((c .before .before .before .before .before .before .before .before .before .args) .stream .now) ((c .before .before .before .before .before .before .before .before .before .args) .c) 0 50 ((c .before .before .before .before .before .before .check-ahead) .ensures)))) ((c .before .before .parameters) .ensures k h)
 
 pub parlist-spec : {M : Type 1} → statement M
 parlist-spec =

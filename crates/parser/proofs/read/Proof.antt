@@ -6,13 +6,12 @@ use Rattle.operators.specs.Ranks.{ranks}
 use Rattle.grammar.specs.Reading.{read, last}
 use Rattle.parser.specs.Contract.{says}
 use Rattle.stream.proofs.Words.{few}
-use Rattle.parser.proofs.Steps.{taken}
 use Rattle.parser.proofs.Kit.{kept}
+use Rattle.parser.proofs.Whole.{failed, done, answered-malformed, answered-refused, answered-room, answered-short}
 use lib.ListN.{replicate}
 use Rattle.tree.specs.Forest.{size}
 use Rattle.grammar.specs.Levels.{chunk}
 use Rattle.parser.specs.Answered.{Answered, counting as counting′}
-use Rattle.parser.proofs.Whole.{failed, done, answered-malformed, answered-refused, answered-room, answered-short}
 use borrow.Author.Needs.{needs}
 use Rattle.parser.proofs.read.Statement.{statement}
 use Rattle.parser.proofs.read.Tie as tie

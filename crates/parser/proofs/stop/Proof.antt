@@ -8,7 +8,7 @@ use Rattle.grammar.specs.Reading.{read, hold, wrap}
 use Rattle.grammar.specs.Levels.{readers}
 use Rattle.grammar.specs.Term.{opening}
 use Rattle.parser.specs.Contract.{again}
-use Rattle.parser.proofs.Kit.{stop, over}
+use Rattle.parser.proofs.Kit.{kept, stop, over}
 use Rattle.parser.proofs.Tokens.{any-fail, any-fine}
 use Rattle.grammar.specs.Productions.{breakstat}
 use borrow.Author.Needs.{needs}
@@ -46,12 +46,15 @@ returns c = λ k h. ap (wrap ((c .before .before .before .before .before .before
 
 -- src/lib.rt:302:1
 same-length : tie.Need-same-length
-same-length c = search needs
+same-length c = (c .before .before .close) .kept .0
 
 -- src/lib.rt:302:1
 returns-2 : tie.Need-returns-2
 unfolding read breakstat
-returns-2 c = λ k h. rw ((c .before .before .close) .ensures .0) (over 13 opening (((c .before .before .before .before .before .before .before .before .before .before .args) .c) .place) ((c .before .before .before .before .before .before .before .before .before .before .args) .line) (any-fine ((c .before .before .before .before .before .before .before .before .before .before .args) .stream .now) (ranks k) 0 (readers ((c .before .before .before .before .before .before .before .before .before .before .args) .stream .now) (ranks k) h) (hold 0 0 none) again ((c .before .before .before .before .before .before .before .before .before .before .args) .c) ((c .before .before .before .before .before .before .before .before .before .before .args) .nodes .now) (((c .before .before .before .before .before .before .before .before .before .before .args) .used) + 1) 0 ((c .before .before .before .before .before .before .before .before .before .before .pre) .0 .formed) (omega arith) ((sym ((c .before .before .before .before .before .before .before .take-next) .ensures)) ∙ (c .before .before .before .before .before .d) .given .1)) ((c .before .before .close) .ensures .1) ((c .before .before .before .before .before .before .before .before .before .before .pre) .1))
+returns-2 c =
+    λ k h.
+    let f1 = any-fine ((c .before .before .before .before .before .before .before .before .before .before .args) .stream .now) (ranks k) 0 (readers ((c .before .before .before .before .before .before .before .before .before .before .args) .stream .now) (ranks k) h) (hold 0 0 none) again ((c .before .before .before .before .before .before .before .before .before .before .args) .c) ((c .before .before .before .before .before .before .before .before .before .before .args) .nodes .now) (((c .before .before .before .before .before .before .before .before .before .before .args) .used) + 1) 0 (((c .before .before .before .before .before .before .before .before .before .before .pre) .0) .formed) (omega (arith, ((c .before .before .before .before .before .before .before .before .before .before .pre) .0) .room)) ((sym ((c .before .before .before .before .before .before .before .take-next) .ensures)) ∙ (c .before .before .before .before .before .d) .given .1) in
+    rw ((c .before .before .close) .ensures .0) (over 13 opening (((c .before .before .before .before .before .before .before .before .before .before .args) .c) .place) ((c .before .before .before .before .before .before .before .before .before .before .args) .line) f1 ((c .before .before .close) .ensures .1) ((c .before .before .before .before .before .before .before .before .before .before .pre) .1))
 
 pub stop-spec : {M : Type 1} → statement M
 stop-spec =

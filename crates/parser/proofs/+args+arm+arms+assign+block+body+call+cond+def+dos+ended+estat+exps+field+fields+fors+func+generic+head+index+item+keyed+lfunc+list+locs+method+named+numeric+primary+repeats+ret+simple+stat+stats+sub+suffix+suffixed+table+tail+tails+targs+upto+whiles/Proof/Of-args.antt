@@ -10,28 +10,23 @@ use Rattle.stream.proofs.reader.get_next.Reads as get-next-reads
 use Rattle.tree.proofs.put.Reads as put-reads
 use Rattle.parser.proofs.+args+arm+arms+assign+block+body+call+cond+def+dos+ended+estat+exps+field+fields+fors+func+generic+head+index+item+keyed+lfunc+list+locs+method+named+numeric+primary+repeats+ret+simple+stat+stats+sub+suffix+suffixed+table+tail+tails+targs+upto+whiles.{}
 use Rattle.parser.proofs.+args+arm+arms+assign+block+body+call+cond+def+dos+ended+estat+exps+field+fields+fors+func+generic+head+index+item+keyed+lfunc+list+locs+method+named+numeric+primary+repeats+ret+simple+stat+stats+sub+suffix+suffixed+table+tail+tails+targs+upto+whiles.Proof.Levels.{args-at, list-below, table-below}
-use mathlib.Core.Path.{refl, sym, ap, _∙_, subst}
+use mathlib.Core.Path.{refl, sym, ap, _∙_}
 use mathlib.Core.List.{[], _∷_}
 use Prim.Native.Nat.{ℕ, _+_, _-_}
 use native.Mathlib.Omega.{arith}
 use Rattle.operators.specs.Ranks.{ranks}
 use Rattle.tree.specs.Forest.{none}
-use Rattle.grammar.specs.Reading.{fail, read, hold, wrap, last}
+use Rattle.grammar.specs.Reading.{fail, read, hold, wrap, add, last}
 use Rattle.grammar.specs.Levels.{readers}
-use Rattle.grammar.specs.Term.{next, unlined, here}
-use Rattle.grammar.specs.Term.{any, leaf, plus, _⨾_, on, refuse, node}
-use Rattle.parser.specs.Contract.{says, again}
+use Rattle.grammar.specs.Term.{unlined, here}
+use Rattle.grammar.specs.Term.{any, leaf, plus, _⨾_, refuse, node}
+use Rattle.parser.specs.Contract.{again}
 use Rattle.parser.specs.Parts as P
 use Rattle.stream.proofs.Words.{few}
-use Rattle.parser.proofs.Steps.{next-fail, next-in, next-out}
-use Rattle.parser.proofs.Kit.{alter, kept, weighs, alter-sums, over}
-use Rattle.parser.proofs.Tokens.{get-place}
-use Rattle.parser.proofs.Looks.{got-again, refused}
+use Rattle.parser.proofs.Steps.{get-place}
+use Rattle.parser.proofs.Kit.{kept, ready-seen, lower, alter, moved-sum, weighed, over}
+use Rattle.parser.proofs.Looks.{refused, by-none, by-kind, by-others}
 use Rattle.grammar.specs.Productions.{table as table′, args as args′}
-use Rattle.parser.specs.Contract.{Sums}
-use Rattle.grammar.specs.Reading.{add}
-use Rattle.parser.proofs.Grouped.{both-later}
-use Rattle.parser.proofs.Tags.{one-in, one-out, alike}
 
 pub args-get-next-requires : (t : ℕ) → args-lts.Need-get-next-requires (
   get-next-reads.Asked,
@@ -97,7 +92,7 @@ pub args-list-requires : (t : ℕ) → args-lts.Need-list-requires (
 ) (args-at t) args.Post
 args-list-requires t c κs =
     let p = get-place ((c .before .before .before .before .before .before .before .before .args) .stream .now) ((c .before .before .before .before .before .before .before .before .args) .c) (sym ((c .before .before .before .before .before .get-next) .ensures) ∙ (c .before .before .before .t) .given .1) in
-    (omega (arith, (c .before .before .before .before .before .before .before .before .pre) .0), record { formed = ((c .before .before .before .before .before .before .before .before .pre) .1) .formed; at = omega (arith, p, ((c .before .before .before .before .before .before .before .before .pre) .1) .at); room = omega (arith, p, ((c .before .before .before .before .before .before .before .before .pre) .1) .room) })
+    (omega (arith, (c .before .before .before .before .before .before .before .before .pre) .0), ready-seen ((c .before .before .before .before .before .before .before .before .pre) .1) p)
 
 pub args-add-table : (t : ℕ) → args-lts.Need-add-table (
   get-next-reads.Asked,
@@ -330,7 +325,7 @@ pub args-returns : (t : ℕ) → args-lts.Need-returns (
   refuse-reads.Learnt,
 ) (args-at t) args.Post
 unfolding read args′
-args-returns t c = next-fail ((c .before .before .before .before .before .before .args) .stream .now) (ranks ((c .before .before .before .before .before .before .args) .ranking)) 0 (readers ((c .before .before .before .before .before .before .args) .stream .now) (ranks ((c .before .before .before .before .before .before .args) .ranking)) ((c .before .before .before .before .before .before .args) .g)) (hold 0 0 none) again ((c .before .before .before .before .before .before .args) .c) (49 ∷ []) P.list (on next (53 ∷ []) (plus 1 ⨾ node 17 here unlined table′) (on next (57 ∷ []) (plus 1 ⨾ node 17 here unlined (any ⨾ leaf 22)) (refuse 62))) (sym ((c .before .before .before .get-next) .ensures) ∙ (c .before .e) .given .1)
+args-returns t c = by-none ((c .before .before .before .before .before .before .args) .stream .now) (ranks ((c .before .before .before .before .before .before .args) .ranking)) 0 (readers ((c .before .before .before .before .before .before .args) .stream .now) (ranks ((c .before .before .before .before .before .before .args) .ranking)) ((c .before .before .before .before .before .before .args) .g)) (hold 0 0 none) again ((c .before .before .before .before .before .before .args) .c) (49, P.list) ((53, (plus 1 ⨾ node 17 here unlined table′)) ∷ (57, (plus 1 ⨾ node 17 here unlined (any ⨾ leaf 22))) ∷ []) (refuse 62) (sym ((c .before .before .before .get-next) .ensures) ∙ (c .before .e) .given .1)
 
 pub args-same-length : (t : ℕ) → args-lts.Need-same-length (
   get-next-reads.Asked,
@@ -365,8 +360,7 @@ pub args-returns-2 : (t : ℕ) → args-lts.Need-returns-2 (
 unfolding read args′
 args-returns-2 t c =
     let p = get-place ((c .before .before .before .before .before .before .before .before .before .before .before .args) .stream .now) ((c .before .before .before .before .before .before .before .before .before .before .before .args) .c) (sym ((c .before .before .before .before .before .before .before .before .get-next) .ensures) ∙ (c .before .before .before .before .before .before .t) .given .1) in
-    alter-sums ((c .before .before .before .before .before .before .before .before .before .before .before .args) .stream .now) (((c .before .before .before .before .before .before .before .before .before .before .before .args) .c) .place) (((c .before .before .before .before .before .before .before .before .before .before .before .args) .c) .place + 1) ((c .before .before .before .before .before .before .before .before .before .before .before .args) .used) 0 ((c .before .before .before .before .before .before .before .before .before .before .before .args) .nodes .now) ((c .before .before .list) .last .1 .0) ((c .before .before .list) .result) (next-in ((c .before .before .before .before .before .before .before .before .before .before .before .args) .stream .now) (ranks ((c .before .before .before .before .before .before .before .before .before .before .before .args) .ranking)) 0 (readers ((c .before .before .before .before .before .before .before .before .before .before .before .args) .stream .now) (ranks ((c .before .before .before .before .before .before .before .before .before .before .before .args) .ranking)) ((c .before .before .before .before .before .before .before .before .before .before .before .args) .g)) (hold 0 0 none) again ((c .before .before .before .before .before .before .before .before .before .before .before .args) .c) (49 ∷ []) P.list (on next (53 ∷ []) (plus 1 ⨾ node 17 here unlined table′) (on next (57 ∷ []) (plus 1 ⨾ node 17 here unlined (any ⨾ leaf 22)) (refuse 62))) (sym ((c .before .before .before .before .before .before .before .before .get-next) .ensures) ∙ (c .before .before .before .before .before .before .t) .given .1) (one-in 49 ((c .before .before .before .before .match2) .keys1)))
-    (subst (λ (z : ℕ). Sums ((c .before .before .before .before .before .before .before .before .before .before .before .args) .stream .now) z (z + 1) ((c .before .before .before .before .before .before .before .before .before .before .before .args) .used) 0 ((c .before .before .before .before .before .before .before .before .before .before .before .args) .nodes .now) ((c .before .before .list) .last .1 .0) (says ((c .before .before .before .before .before .before .before .before .before .before .before .args) .stream .now) ((c .before .before .before .before .before .before .before .before .before .before .before .args) .ranking) ((c .before .before .before .before .before .before .before .before .before .before .before .args) .g) P.list ((c .before .before .before .before .before .before .t) .given .0 .1 .0)) ((c .before .before .list) .result)) p ((c .before .before .list) .ensures))
+    moved-sum ((c .before .before .before .before .before .before .before .before .before .before .before .args) .stream .now) ((c .before .before .before .before .before .before .before .before .before .before .before .args) .used) 0 ((c .before .before .before .before .before .before .before .before .before .before .before .args) .nodes .now) ((c .before .before .list) .last .1 .0) ((c .before .before .list) .result) (by-kind ((c .before .before .before .before .before .before .before .before .before .before .before .args) .stream .now) (ranks ((c .before .before .before .before .before .before .before .before .before .before .before .args) .ranking)) 0 (readers ((c .before .before .before .before .before .before .before .before .before .before .before .args) .stream .now) (ranks ((c .before .before .before .before .before .before .before .before .before .before .before .args) .ranking)) ((c .before .before .before .before .before .before .before .before .before .before .before .args) .g)) (hold 0 0 none) again ((c .before .before .before .before .before .before .before .before .before .before .before .args) .c) (49, P.list) ((53, (plus 1 ⨾ node 17 here unlined table′)) ∷ (57, (plus 1 ⨾ node 17 here unlined (any ⨾ leaf 22))) ∷ []) (refuse 62) (sym ((c .before .before .before .before .before .before .before .before .get-next) .ensures) ∙ (c .before .before .before .before .before .before .t) .given .1) ((c .before .before .before .before .match2) .keys1)) (omega (arith, p)) (omega (arith, p)) ((c .before .before .list) .ensures)
 
 pub args-same-length-2 : (t : ℕ) → args-lts.Need-same-length-2 (
   get-next-reads.Asked,
@@ -399,10 +393,7 @@ pub args-returns-3 : (t : ℕ) → args-lts.Need-returns-3 (
   refuse-reads.Learnt,
 ) (args-at t) args.Post
 unfolding read args′
-args-returns-3 t c =
-    next-out ((c .before .before .before .before .before .before .before .before .before .before .before .before .before .before .args) .stream .now) (ranks ((c .before .before .before .before .before .before .before .before .before .before .before .before .before .before .args) .ranking)) 0 (readers ((c .before .before .before .before .before .before .before .before .before .before .before .before .before .before .args) .stream .now) (ranks ((c .before .before .before .before .before .before .before .before .before .before .before .before .before .before .args) .ranking)) ((c .before .before .before .before .before .before .before .before .before .before .before .before .before .before .args) .g)) (hold 0 0 none) again ((c .before .before .before .before .before .before .before .before .before .before .before .before .before .before .args) .c) (49 ∷ []) P.list (on next (53 ∷ []) (plus 1 ⨾ node 17 here unlined table′) (on next (57 ∷ []) (plus 1 ⨾ node 17 here unlined (any ⨾ leaf 22)) (refuse 62))) (sym ((c .before .before .before .before .before .before .before .before .before .before .before .get-next) .ensures) ∙ (c .before .before .before .before .before .before .before .before .before .t) .given .1) (alike (49 ∷ []) ((c .before .before .before .before .before .before .before .match2) .keys2))
-    ∙ next-in ((c .before .before .before .before .before .before .before .before .before .before .before .before .before .before .args) .stream .now) (ranks ((c .before .before .before .before .before .before .before .before .before .before .before .before .before .before .args) .ranking)) 0 (readers ((c .before .before .before .before .before .before .before .before .before .before .before .before .before .before .args) .stream .now) (ranks ((c .before .before .before .before .before .before .before .before .before .before .before .before .before .before .args) .ranking)) ((c .before .before .before .before .before .before .before .before .before .before .before .before .before .before .args) .g)) (hold 0 0 none) again ((c .before .before .before .before .before .before .before .before .before .t) .given .0 .1 .0) (53 ∷ []) (plus 1 ⨾ node 17 here unlined table′) (on next (57 ∷ []) (plus 1 ⨾ node 17 here unlined (any ⨾ leaf 22)) (refuse 62)) (got-again ((c .before .before .before .before .before .before .before .before .before .before .before .before .before .before .args) .stream .now) ((c .before .before .before .before .before .before .before .before .before .before .before .before .before .before .args) .c) (sym ((c .before .before .before .before .before .before .before .before .before .before .before .get-next) .ensures) ∙ (c .before .before .before .before .before .before .before .before .before .t) .given .1)) (one-in 53 ((c .before .before .before .before .before .before .before .match2) .keys2))
-    ∙ ap (add none 1) (ap (wrap ((c .before .before .before .before .before .before .before .before .before .before .before .before .before .before .args) .stream .now) 17 unlined (((c .before .before .before .before .before .before .before .before .before .t) .given .0 .1 .0) .place)) (rw ((c .before .e2) .given .1) at ((c .before .before .before .before .before .table) .ensures)))
+args-returns-3 t c = by-kind ((c .before .before .before .before .before .before .before .before .before .before .before .before .before .before .args) .stream .now) (ranks ((c .before .before .before .before .before .before .before .before .before .before .before .before .before .before .args) .ranking)) 0 (readers ((c .before .before .before .before .before .before .before .before .before .before .before .before .before .before .args) .stream .now) (ranks ((c .before .before .before .before .before .before .before .before .before .before .before .before .before .before .args) .ranking)) ((c .before .before .before .before .before .before .before .before .before .before .before .before .before .before .args) .g)) (hold 0 0 none) again ((c .before .before .before .before .before .before .before .before .before .before .before .before .before .before .args) .c) (49, P.list) ((53, (plus 1 ⨾ node 17 here unlined table′)) ∷ (57, (plus 1 ⨾ node 17 here unlined (any ⨾ leaf 22))) ∷ []) (refuse 62) (sym ((c .before .before .before .before .before .before .before .before .before .before .before .get-next) .ensures) ∙ (c .before .before .before .before .before .before .before .before .before .t) .given .1) ((c .before .before .before .before .before .before .before .match2) .keys2) ∙ ap (add none 1) (ap (wrap ((c .before .before .before .before .before .before .before .before .before .before .before .before .before .before .args) .stream .now) 17 unlined (((c .before .before .before .before .before .before .before .before .before .t) .given .0 .1 .0) .place)) (rw ((c .before .e2) .given .1) at ((c .before .before .before .before .before .table) .ensures)))
 
 pub args-same-length-3 : (t : ℕ) → args-lts.Need-same-length-3 (
   get-next-reads.Asked,
@@ -438,9 +429,8 @@ unfolding read args′
 args-returns-4 t c =
     let p = get-place ((c .before .before .before .before .before .before .before .before .before .before .before .before .before .before .before .before .before .before .args) .stream .now) ((c .before .before .before .before .before .before .before .before .before .before .before .before .before .before .before .before .before .before .args) .c) (sym ((c .before .before .before .before .before .before .before .before .before .before .before .before .before .before .before .get-next) .ensures) ∙ (c .before .before .before .before .before .before .before .before .before .before .before .before .before .t) .given .1) in
     let f1 = rw ((c .before .before .before .before .before .e3) .given .1) at ((c .before .before .before .before .before .before .before .before .before .table) .ensures) in
-    let f2 = over 17 unlined (((c .before .before .before .before .before .before .before .before .before .before .before .before .before .t) .given .0 .1 .0) .place) 0 f1 ((c .before .before .put) .ensures) refl in
-    let f3 = both-later (((c .before .before .before .before .before .before .before .before .before .before .before .before .before .before .before .before .before .before .args) .c) .place + 1) (read ((c .before .before .before .before .before .before .before .before .before .before .before .before .before .before .before .before .before .before .args) .stream .now) (ranks ((c .before .before .before .before .before .before .before .before .before .before .before .before .before .before .before .before .before .before .args) .ranking)) 0 (readers ((c .before .before .before .before .before .before .before .before .before .before .before .before .before .before .before .before .before .before .args) .stream .now) (ranks ((c .before .before .before .before .before .before .before .before .before .before .before .before .before .before .before .before .before .before .args) .ranking)) ((c .before .before .before .before .before .before .before .before .before .before .before .before .before .before .before .before .before .before .args) .g)) (hold 0 0 none) (node 17 here unlined table′) again) (weighs ((c .before .before .before .before .before .before .before .before .before .before .before .before .before .before .before .before .before .before .args) .nodes .now) ((c .before .before .before .before .before .before .before .before .before .before .before .before .before .before .before .before .before .before .args) .used) 1 1 ((c .before .before .before .before .before .before .before .before .before .before .before .before .before .t) .given .0 .1 .0) (omega (arith, p, ((c .before .before .before .before .before .before .before .before .before .before .before .before .before .before .before .before .before .before .pre) .1) .at)) (omega (arith, p, ((c .before .before .before .before .before .before .before .before .before .before .before .before .before .before .before .before .before .before .pre) .1) .room))) f2 (omega arith) (omega (arith, p)) in
-    (alter (next-out ((c .before .before .before .before .before .before .before .before .before .before .before .before .before .before .before .before .before .before .args) .stream .now) (ranks ((c .before .before .before .before .before .before .before .before .before .before .before .before .before .before .before .before .before .before .args) .ranking)) 0 (readers ((c .before .before .before .before .before .before .before .before .before .before .before .before .before .before .before .before .before .before .args) .stream .now) (ranks ((c .before .before .before .before .before .before .before .before .before .before .before .before .before .before .before .before .before .before .args) .ranking)) ((c .before .before .before .before .before .before .before .before .before .before .before .before .before .before .before .before .before .before .args) .g)) (hold 0 0 none) again ((c .before .before .before .before .before .before .before .before .before .before .before .before .before .before .before .before .before .before .args) .c) (49 ∷ []) P.list (on next (53 ∷ []) (plus 1 ⨾ node 17 here unlined table′) (on next (57 ∷ []) (plus 1 ⨾ node 17 here unlined (any ⨾ leaf 22)) (refuse 62))) (sym ((c .before .before .before .before .before .before .before .before .before .before .before .before .before .before .before .get-next) .ensures) ∙ (c .before .before .before .before .before .before .before .before .before .before .before .before .before .t) .given .1) (alike (49 ∷ []) ((c .before .before .before .before .before .before .before .before .before .before .before .match2) .keys2)) ∙ next-in ((c .before .before .before .before .before .before .before .before .before .before .before .before .before .before .before .before .before .before .args) .stream .now) (ranks ((c .before .before .before .before .before .before .before .before .before .before .before .before .before .before .before .before .before .before .args) .ranking)) 0 (readers ((c .before .before .before .before .before .before .before .before .before .before .before .before .before .before .before .before .before .before .args) .stream .now) (ranks ((c .before .before .before .before .before .before .before .before .before .before .before .before .before .before .before .before .before .before .args) .ranking)) ((c .before .before .before .before .before .before .before .before .before .before .before .before .before .before .before .before .before .before .args) .g)) (hold 0 0 none) again ((c .before .before .before .before .before .before .before .before .before .before .before .before .before .t) .given .0 .1 .0) (53 ∷ []) (plus 1 ⨾ node 17 here unlined table′) (on next (57 ∷ []) (plus 1 ⨾ node 17 here unlined (any ⨾ leaf 22)) (refuse 62)) (got-again ((c .before .before .before .before .before .before .before .before .before .before .before .before .before .before .before .before .before .before .args) .stream .now) ((c .before .before .before .before .before .before .before .before .before .before .before .before .before .before .before .before .before .before .args) .c) (sym ((c .before .before .before .before .before .before .before .before .before .before .before .before .before .before .before .get-next) .ensures) ∙ (c .before .before .before .before .before .before .before .before .before .before .before .before .before .t) .given .1)) (one-in 53 ((c .before .before .before .before .before .before .before .before .before .before .before .match2) .keys2))) f3, omega (arith, p, f1 .later))
+    let f2 = weighed 1 (over 17 unlined (((c .before .before .before .before .before .before .before .before .before .before .before .before .before .t) .given .0 .1 .0) .place) 0 f1 ((c .before .before .put) .ensures) refl) in
+    (lower (((c .before .before .before .before .before .before .before .before .before .before .before .before .before .before .before .before .before .before .args) .c) .place + 1) (alter (by-kind ((c .before .before .before .before .before .before .before .before .before .before .before .before .before .before .before .before .before .before .args) .stream .now) (ranks ((c .before .before .before .before .before .before .before .before .before .before .before .before .before .before .before .before .before .before .args) .ranking)) 0 (readers ((c .before .before .before .before .before .before .before .before .before .before .before .before .before .before .before .before .before .before .args) .stream .now) (ranks ((c .before .before .before .before .before .before .before .before .before .before .before .before .before .before .before .before .before .before .args) .ranking)) ((c .before .before .before .before .before .before .before .before .before .before .before .before .before .before .before .before .before .before .args) .g)) (hold 0 0 none) again ((c .before .before .before .before .before .before .before .before .before .before .before .before .before .before .before .before .before .before .args) .c) (49, P.list) ((53, (plus 1 ⨾ node 17 here unlined table′)) ∷ (57, (plus 1 ⨾ node 17 here unlined (any ⨾ leaf 22))) ∷ []) (refuse 62) (sym ((c .before .before .before .before .before .before .before .before .before .before .before .before .before .before .before .get-next) .ensures) ∙ (c .before .before .before .before .before .before .before .before .before .before .before .before .before .t) .given .1) ((c .before .before .before .before .before .before .before .before .before .before .before .match2) .keys2)) f2) (omega (arith, p, f1 .later)), omega (arith, p, f1 .later))
 
 pub args-same-length-4 : (t : ℕ) → args-lts.Need-same-length-4 (
   get-next-reads.Asked,
@@ -473,11 +463,7 @@ pub args-returns-5 : (t : ℕ) → args-lts.Need-returns-5 (
   refuse-reads.Learnt,
 ) (args-at t) args.Post
 unfolding read args′
-args-returns-5 t c =
-    next-out ((c .before .before .before .before .before .before .before .before .before .before .before .before .before .before .args) .stream .now) (ranks ((c .before .before .before .before .before .before .before .before .before .before .before .before .before .before .args) .ranking)) 0 (readers ((c .before .before .before .before .before .before .before .before .before .before .before .before .before .before .args) .stream .now) (ranks ((c .before .before .before .before .before .before .before .before .before .before .before .before .before .before .args) .ranking)) ((c .before .before .before .before .before .before .before .before .before .before .before .before .before .before .args) .g)) (hold 0 0 none) again ((c .before .before .before .before .before .before .before .before .before .before .before .before .before .before .args) .c) (49 ∷ []) P.list (on next (53 ∷ []) (plus 1 ⨾ node 17 here unlined table′) (on next (57 ∷ []) (plus 1 ⨾ node 17 here unlined (any ⨾ leaf 22)) (refuse 62))) (sym ((c .before .before .before .before .before .before .before .before .before .before .before .get-next) .ensures) ∙ (c .before .before .before .before .before .before .before .before .before .t) .given .1) (alike (49 ∷ []) ((c .before .before .before .before .before .before .before .match2) .keys3))
-    ∙ next-out ((c .before .before .before .before .before .before .before .before .before .before .before .before .before .before .args) .stream .now) (ranks ((c .before .before .before .before .before .before .before .before .before .before .before .before .before .before .args) .ranking)) 0 (readers ((c .before .before .before .before .before .before .before .before .before .before .before .before .before .before .args) .stream .now) (ranks ((c .before .before .before .before .before .before .before .before .before .before .before .before .before .before .args) .ranking)) ((c .before .before .before .before .before .before .before .before .before .before .before .before .before .before .args) .g)) (hold 0 0 none) again ((c .before .before .before .before .before .before .before .before .before .t) .given .0 .1 .0) (53 ∷ []) (plus 1 ⨾ node 17 here unlined table′) (on next (57 ∷ []) (plus 1 ⨾ node 17 here unlined (any ⨾ leaf 22)) (refuse 62)) (got-again ((c .before .before .before .before .before .before .before .before .before .before .before .before .before .before .args) .stream .now) ((c .before .before .before .before .before .before .before .before .before .before .before .before .before .before .args) .c) (sym ((c .before .before .before .before .before .before .before .before .before .before .before .get-next) .ensures) ∙ (c .before .before .before .before .before .before .before .before .before .t) .given .1)) (alike (53 ∷ []) ((c .before .before .before .before .before .before .before .match2) .keys3))
-    ∙ next-in ((c .before .before .before .before .before .before .before .before .before .before .before .before .before .before .args) .stream .now) (ranks ((c .before .before .before .before .before .before .before .before .before .before .before .before .before .before .args) .ranking)) 0 (readers ((c .before .before .before .before .before .before .before .before .before .before .before .before .before .before .args) .stream .now) (ranks ((c .before .before .before .before .before .before .before .before .before .before .before .before .before .before .args) .ranking)) ((c .before .before .before .before .before .before .before .before .before .before .before .before .before .before .args) .g)) (hold 0 0 none) again ((c .before .before .before .before .before .before .before .before .before .t) .given .0 .1 .0) (57 ∷ []) (plus 1 ⨾ node 17 here unlined (any ⨾ leaf 22)) (refuse 62) (got-again ((c .before .before .before .before .before .before .before .before .before .before .before .before .before .before .args) .stream .now) ((c .before .before .before .before .before .before .before .before .before .before .before .before .before .before .args) .c) (sym ((c .before .before .before .before .before .before .before .before .before .before .before .get-next) .ensures) ∙ (c .before .before .before .before .before .before .before .before .before .t) .given .1)) (one-in 57 ((c .before .before .before .before .before .before .before .match2) .keys3))
-    ∙ ap (add none 1) (ap (wrap ((c .before .before .before .before .before .before .before .before .before .before .before .before .before .before .args) .stream .now) 17 unlined (((c .before .before .before .before .before .before .before .before .before .t) .given .0 .1 .0) .place)) (rw ((c .before .e4) .given .1) at ((c .before .before .before .before .before .leaf) .ensures ((c .before .before .before .before .before .before .before .before .before .before .before .before .before .before .args) .ranking) ((c .before .before .before .before .before .before .before .before .before .before .before .before .before .before .args) .g))))
+args-returns-5 t c = by-kind ((c .before .before .before .before .before .before .before .before .before .before .before .before .before .before .args) .stream .now) (ranks ((c .before .before .before .before .before .before .before .before .before .before .before .before .before .before .args) .ranking)) 0 (readers ((c .before .before .before .before .before .before .before .before .before .before .before .before .before .before .args) .stream .now) (ranks ((c .before .before .before .before .before .before .before .before .before .before .before .before .before .before .args) .ranking)) ((c .before .before .before .before .before .before .before .before .before .before .before .before .before .before .args) .g)) (hold 0 0 none) again ((c .before .before .before .before .before .before .before .before .before .before .before .before .before .before .args) .c) (49, P.list) ((53, (plus 1 ⨾ node 17 here unlined table′)) ∷ (57, (plus 1 ⨾ node 17 here unlined (any ⨾ leaf 22))) ∷ []) (refuse 62) (sym ((c .before .before .before .before .before .before .before .before .before .before .before .get-next) .ensures) ∙ (c .before .before .before .before .before .before .before .before .before .t) .given .1) ((c .before .before .before .before .before .before .before .match2) .keys3) ∙ ap (add none 1) (ap (wrap ((c .before .before .before .before .before .before .before .before .before .before .before .before .before .before .args) .stream .now) 17 unlined (((c .before .before .before .before .before .before .before .before .before .t) .given .0 .1 .0) .place)) (rw ((c .before .e4) .given .1) at ((c .before .before .before .before .before .leaf) .ensures ((c .before .before .before .before .before .before .before .before .before .before .before .before .before .before .args) .ranking) ((c .before .before .before .before .before .before .before .before .before .before .before .before .before .before .args) .g))))
 
 pub args-same-length-5 : (t : ℕ) → args-lts.Need-same-length-5 (
   get-next-reads.Asked,
@@ -513,9 +499,8 @@ unfolding read args′
 args-returns-6 t c =
     let p = get-place ((c .before .before .before .before .before .before .before .before .before .before .before .before .before .before .before .before .before .before .args) .stream .now) ((c .before .before .before .before .before .before .before .before .before .before .before .before .before .before .before .before .before .before .args) .c) (sym ((c .before .before .before .before .before .before .before .before .before .before .before .before .before .before .before .get-next) .ensures) ∙ (c .before .before .before .before .before .before .before .before .before .before .before .before .before .t) .given .1) in
     let f1 = rw ((c .before .before .before .before .before .e5) .given .1) at ((c .before .before .before .before .before .before .before .before .before .leaf) .ensures ((c .before .before .before .before .before .before .before .before .before .before .before .before .before .before .before .before .before .before .args) .ranking) ((c .before .before .before .before .before .before .before .before .before .before .before .before .before .before .before .before .before .before .args) .g)) in
-    let f2 = over 17 unlined (((c .before .before .before .before .before .before .before .before .before .before .before .before .before .t) .given .0 .1 .0) .place) 0 f1 ((c .before .before .put2) .ensures) refl in
-    let f3 = both-later (((c .before .before .before .before .before .before .before .before .before .before .before .before .before .before .before .before .before .before .args) .c) .place + 1) (read ((c .before .before .before .before .before .before .before .before .before .before .before .before .before .before .before .before .before .before .args) .stream .now) (ranks ((c .before .before .before .before .before .before .before .before .before .before .before .before .before .before .before .before .before .before .args) .ranking)) 0 (readers ((c .before .before .before .before .before .before .before .before .before .before .before .before .before .before .before .before .before .before .args) .stream .now) (ranks ((c .before .before .before .before .before .before .before .before .before .before .before .before .before .before .before .before .before .before .args) .ranking)) ((c .before .before .before .before .before .before .before .before .before .before .before .before .before .before .before .before .before .before .args) .g)) (hold 0 0 none) (node 17 here unlined (any ⨾ leaf 22)) again) (weighs ((c .before .before .before .before .before .before .before .before .before .before .before .before .before .before .before .before .before .before .args) .nodes .now) ((c .before .before .before .before .before .before .before .before .before .before .before .before .before .before .before .before .before .before .args) .used) 1 1 ((c .before .before .before .before .before .before .before .before .before .before .before .before .before .t) .given .0 .1 .0) (omega (arith, p, ((c .before .before .before .before .before .before .before .before .before .before .before .before .before .before .before .before .before .before .pre) .1) .at)) (omega (arith, p, ((c .before .before .before .before .before .before .before .before .before .before .before .before .before .before .before .before .before .before .pre) .1) .room))) f2 (omega arith) (omega (arith, p)) in
-    (alter (next-out ((c .before .before .before .before .before .before .before .before .before .before .before .before .before .before .before .before .before .before .args) .stream .now) (ranks ((c .before .before .before .before .before .before .before .before .before .before .before .before .before .before .before .before .before .before .args) .ranking)) 0 (readers ((c .before .before .before .before .before .before .before .before .before .before .before .before .before .before .before .before .before .before .args) .stream .now) (ranks ((c .before .before .before .before .before .before .before .before .before .before .before .before .before .before .before .before .before .before .args) .ranking)) ((c .before .before .before .before .before .before .before .before .before .before .before .before .before .before .before .before .before .before .args) .g)) (hold 0 0 none) again ((c .before .before .before .before .before .before .before .before .before .before .before .before .before .before .before .before .before .before .args) .c) (49 ∷ []) P.list (on next (53 ∷ []) (plus 1 ⨾ node 17 here unlined table′) (on next (57 ∷ []) (plus 1 ⨾ node 17 here unlined (any ⨾ leaf 22)) (refuse 62))) (sym ((c .before .before .before .before .before .before .before .before .before .before .before .before .before .before .before .get-next) .ensures) ∙ (c .before .before .before .before .before .before .before .before .before .before .before .before .before .t) .given .1) (alike (49 ∷ []) ((c .before .before .before .before .before .before .before .before .before .before .before .match2) .keys3)) ∙ next-out ((c .before .before .before .before .before .before .before .before .before .before .before .before .before .before .before .before .before .before .args) .stream .now) (ranks ((c .before .before .before .before .before .before .before .before .before .before .before .before .before .before .before .before .before .before .args) .ranking)) 0 (readers ((c .before .before .before .before .before .before .before .before .before .before .before .before .before .before .before .before .before .before .args) .stream .now) (ranks ((c .before .before .before .before .before .before .before .before .before .before .before .before .before .before .before .before .before .before .args) .ranking)) ((c .before .before .before .before .before .before .before .before .before .before .before .before .before .before .before .before .before .before .args) .g)) (hold 0 0 none) again ((c .before .before .before .before .before .before .before .before .before .before .before .before .before .t) .given .0 .1 .0) (53 ∷ []) (plus 1 ⨾ node 17 here unlined table′) (on next (57 ∷ []) (plus 1 ⨾ node 17 here unlined (any ⨾ leaf 22)) (refuse 62)) (got-again ((c .before .before .before .before .before .before .before .before .before .before .before .before .before .before .before .before .before .before .args) .stream .now) ((c .before .before .before .before .before .before .before .before .before .before .before .before .before .before .before .before .before .before .args) .c) (sym ((c .before .before .before .before .before .before .before .before .before .before .before .before .before .before .before .get-next) .ensures) ∙ (c .before .before .before .before .before .before .before .before .before .before .before .before .before .t) .given .1)) (alike (53 ∷ []) ((c .before .before .before .before .before .before .before .before .before .before .before .match2) .keys3)) ∙ next-in ((c .before .before .before .before .before .before .before .before .before .before .before .before .before .before .before .before .before .before .args) .stream .now) (ranks ((c .before .before .before .before .before .before .before .before .before .before .before .before .before .before .before .before .before .before .args) .ranking)) 0 (readers ((c .before .before .before .before .before .before .before .before .before .before .before .before .before .before .before .before .before .before .args) .stream .now) (ranks ((c .before .before .before .before .before .before .before .before .before .before .before .before .before .before .before .before .before .before .args) .ranking)) ((c .before .before .before .before .before .before .before .before .before .before .before .before .before .before .before .before .before .before .args) .g)) (hold 0 0 none) again ((c .before .before .before .before .before .before .before .before .before .before .before .before .before .t) .given .0 .1 .0) (57 ∷ []) (plus 1 ⨾ node 17 here unlined (any ⨾ leaf 22)) (refuse 62) (got-again ((c .before .before .before .before .before .before .before .before .before .before .before .before .before .before .before .before .before .before .args) .stream .now) ((c .before .before .before .before .before .before .before .before .before .before .before .before .before .before .before .before .before .before .args) .c) (sym ((c .before .before .before .before .before .before .before .before .before .before .before .before .before .before .before .get-next) .ensures) ∙ (c .before .before .before .before .before .before .before .before .before .before .before .before .before .t) .given .1)) (one-in 57 ((c .before .before .before .before .before .before .before .before .before .before .before .match2) .keys3))) f3, omega (arith, p, f1 .later))
+    let f2 = weighed 1 (over 17 unlined (((c .before .before .before .before .before .before .before .before .before .before .before .before .before .t) .given .0 .1 .0) .place) 0 f1 ((c .before .before .put2) .ensures) refl) in
+    (lower (((c .before .before .before .before .before .before .before .before .before .before .before .before .before .before .before .before .before .before .args) .c) .place + 1) (alter (by-kind ((c .before .before .before .before .before .before .before .before .before .before .before .before .before .before .before .before .before .before .args) .stream .now) (ranks ((c .before .before .before .before .before .before .before .before .before .before .before .before .before .before .before .before .before .before .args) .ranking)) 0 (readers ((c .before .before .before .before .before .before .before .before .before .before .before .before .before .before .before .before .before .before .args) .stream .now) (ranks ((c .before .before .before .before .before .before .before .before .before .before .before .before .before .before .before .before .before .before .args) .ranking)) ((c .before .before .before .before .before .before .before .before .before .before .before .before .before .before .before .before .before .before .args) .g)) (hold 0 0 none) again ((c .before .before .before .before .before .before .before .before .before .before .before .before .before .before .before .before .before .before .args) .c) (49, P.list) ((53, (plus 1 ⨾ node 17 here unlined table′)) ∷ (57, (plus 1 ⨾ node 17 here unlined (any ⨾ leaf 22))) ∷ []) (refuse 62) (sym ((c .before .before .before .before .before .before .before .before .before .before .before .before .before .before .before .get-next) .ensures) ∙ (c .before .before .before .before .before .before .before .before .before .before .before .before .before .t) .given .1) ((c .before .before .before .before .before .before .before .before .before .before .before .match2) .keys3)) f2) (omega (arith, p, f1 .later)), omega (arith, p, f1 .later))
 
 pub args-returns-7 : (t : ℕ) → args-lts.Need-returns-7 (
   get-next-reads.Asked,
@@ -532,9 +517,4 @@ pub args-returns-7 : (t : ℕ) → args-lts.Need-returns-7 (
   refuse-reads.Learnt,
 ) (args-at t) args.Post
 unfolding read args′
-args-returns-7 t c =
-    next-out ((c .before .before .before .before .before .before .before .before .args) .stream .now) (ranks ((c .before .before .before .before .before .before .before .before .args) .ranking)) 0 (readers ((c .before .before .before .before .before .before .before .before .args) .stream .now) (ranks ((c .before .before .before .before .before .before .before .before .args) .ranking)) ((c .before .before .before .before .before .before .before .before .args) .g)) (hold 0 0 none) again ((c .before .before .before .before .before .before .before .before .args) .c) (49 ∷ []) P.list (on next (53 ∷ []) (plus 1 ⨾ node 17 here unlined table′) (on next (57 ∷ []) (plus 1 ⨾ node 17 here unlined (any ⨾ leaf 22)) (refuse 62))) (sym ((c .before .before .before .before .before .get-next) .ensures) ∙ (c .before .before .before .t) .given .1) (one-out 49 ((c .before .match2) .rest .0 .0 .1))
-    ∙ next-out ((c .before .before .before .before .before .before .before .before .args) .stream .now) (ranks ((c .before .before .before .before .before .before .before .before .args) .ranking)) 0 (readers ((c .before .before .before .before .before .before .before .before .args) .stream .now) (ranks ((c .before .before .before .before .before .before .before .before .args) .ranking)) ((c .before .before .before .before .before .before .before .before .args) .g)) (hold 0 0 none) again ((c .before .before .before .t) .given .0 .1 .0) (53 ∷ []) (plus 1 ⨾ node 17 here unlined table′) (on next (57 ∷ []) (plus 1 ⨾ node 17 here unlined (any ⨾ leaf 22)) (refuse 62)) (got-again ((c .before .before .before .before .before .before .before .before .args) .stream .now) ((c .before .before .before .before .before .before .before .before .args) .c) (sym ((c .before .before .before .before .before .get-next) .ensures) ∙ (c .before .before .before .t) .given .1)) (one-out 53 ((c .before .match2) .rest .0 .1))
-    ∙ next-out ((c .before .before .before .before .before .before .before .before .args) .stream .now) (ranks ((c .before .before .before .before .before .before .before .before .args) .ranking)) 0 (readers ((c .before .before .before .before .before .before .before .before .args) .stream .now) (ranks ((c .before .before .before .before .before .before .before .before .args) .ranking)) ((c .before .before .before .before .before .before .before .before .args) .g)) (hold 0 0 none) again ((c .before .before .before .t) .given .0 .1 .0) (57 ∷ []) (plus 1 ⨾ node 17 here unlined (any ⨾ leaf 22)) (refuse 62) (got-again ((c .before .before .before .before .before .before .before .before .args) .stream .now) ((c .before .before .before .before .before .before .before .before .args) .c) (sym ((c .before .before .before .before .before .get-next) .ensures) ∙ (c .before .before .before .t) .given .1)) (one-out 57 ((c .before .match2) .rest .1))
-    ∙ refused ((c .before .before .before .before .before .before .before .before .args) .stream .now) (ranks ((c .before .before .before .before .before .before .before .before .args) .ranking)) 0 (readers ((c .before .before .before .before .before .before .before .before .args) .stream .now) (ranks ((c .before .before .before .before .before .before .before .before .args) .ranking)) ((c .before .before .before .before .before .before .before .before .args) .g)) (hold 0 0 none) again ((c .before .before .before .before .before .before .before .before .args) .c) 62 (sym ((c .before .before .before .before .before .get-next) .ensures) ∙ (c .before .before .before .t) .given .1)
-    ∙ ap fail (sym ((c .refuse) .ensures))
+args-returns-7 t c = by-others ((c .before .before .before .before .before .before .before .before .args) .stream .now) (ranks ((c .before .before .before .before .before .before .before .before .args) .ranking)) 0 (readers ((c .before .before .before .before .before .before .before .before .args) .stream .now) (ranks ((c .before .before .before .before .before .before .before .before .args) .ranking)) ((c .before .before .before .before .before .before .before .before .args) .g)) (hold 0 0 none) again ((c .before .before .before .before .before .before .before .before .args) .c) (49, P.list) ((53, (plus 1 ⨾ node 17 here unlined table′)) ∷ (57, (plus 1 ⨾ node 17 here unlined (any ⨾ leaf 22))) ∷ []) (refuse 62) (sym ((c .before .before .before .before .before .get-next) .ensures) ∙ (c .before .before .before .t) .given .1) ((c .before .match2) .rest .0 .0 .1) ((c .before .match2) .rest .0 .1) ((c .before .match2) .rest .1) ∙ refused ((c .before .before .before .before .before .before .before .before .args) .stream .now) (ranks ((c .before .before .before .before .before .before .before .before .args) .ranking)) 0 (readers ((c .before .before .before .before .before .before .before .before .args) .stream .now) (ranks ((c .before .before .before .before .before .before .before .before .args) .ranking)) ((c .before .before .before .before .before .before .before .before .args) .g)) (hold 0 0 none) again ((c .before .before .before .before .before .before .before .before .args) .c) 62 (sym ((c .before .before .before .before .before .get-next) .ensures) ∙ (c .before .before .before .t) .given .1) ∙ ap fail (sym ((c .refuse) .ensures))

@@ -15,7 +15,7 @@ use Rattle.tree.specs.Forest.{none}
 use Rattle.grammar.specs.Reading.{read, hold}
 use Rattle.grammar.specs.Levels.{readers}
 use Rattle.parser.specs.Contract.{again}
-use Rattle.parser.proofs.Kit.{kept, stop, onward}
+use Rattle.parser.proofs.Kit.{kept, ready-at, stop, onward}
 use Rattle.parser.proofs.Looks.{expect-meets}
 
 pub body-expect-requires : (t : ℕ) → body-lts.Need-expect-requires (
@@ -50,7 +50,7 @@ pub body-ended-requires : (t : ℕ) → body-lts.Need-ended-requires (
 ) (body-at t) body.Post
 body-ended-requires t c κs =
     let f1 = rw ((c .before .before .d) .given .1) at (expect-meets ((c .before .before .before .before .before .before .before .args) .stream .now) (ranks ((c .before .before .before .before .before .before .before .args) .ranking)) 0 (readers ((c .before .before .before .before .before .before .before .args) .stream .now) (ranks ((c .before .before .before .before .before .before .before .args) .ranking)) ((c .before .before .before .before .before .before .before .args) .g)) (hold 0 0 none) again ((c .before .before .before .before .before .before .before .args) .c) 1 refl refl (((c .before .before .before .before .before .before .before .pre) .1) .formed) ((c .before .before .before .before .before .before .before .args) .nodes .now) ((c .before .before .before .before .before .before .before .args) .used) 0 (omega (arith, ((c .before .before .before .before .before .before .before .pre) .1) .room)) ((c .before .before .before .before .expect) .result) ((c .before .before .before .before .expect) .ensures)) in
-    (omega (arith, (c .before .before .before .before .before .before .before .pre) .0), record { formed = ((c .before .before .before .before .before .before .before .pre) .1) .formed; at = f1 .at; room = f1 .room })
+    (omega (arith, (c .before .before .before .before .before .before .before .pre) .0), ready-at (((c .before .before .before .before .before .before .before .pre) .1) .formed) f1 (omega arith))
 
 pub body-returns : (t : ℕ) → body-lts.Need-returns (
   expect-reads.Asked,

@@ -82,7 +82,7 @@ pub dos-ended-requires : (t : ℕ) → dos-lts.Need-ended-requires (
   close-reads.Asked,
   close-reads.Learnt,
 ) (dos-at t) dos.Post
-dos-ended-requires t c κs = (omega (arith, (c .before .before .before .before .before .before .before .pre) .0), ready-after (((c .before .before .before .before .before .before .before .args) .used) + 1) 0 (((c .before .before .before .before .before .before .before .pre) .1 .0) .formed) (took-next ((c .before .before .before .before .before .before .before .args) .stream .now) ((c .before .before .before .before .before .before .before .args) .c) ((sym ((c .before .before .before .before .take-next) .ensures)) ∙ (c .before .before .d) .given .1)) (omega (arith, ((c .before .before .before .before .before .before .before .pre) .1 .0) .room)))
+dos-ended-requires t c κs = (omega (arith, (c .before .before .before .before .before .before .before .pre) .0), ready-after (((c .before .before .before .before .before .before .before .pre) .1 .0) .formed) (took-next ((c .before .before .before .before .before .before .before .args) .stream .now) ((c .before .before .before .before .before .before .before .args) .c) ((sym ((c .before .before .before .before .take-next) .ensures)) ∙ (c .before .before .d) .given .1)) (omega (arith, ((c .before .before .before .before .before .before .before .pre) .1 .0) .room)))
 
 pub dos-enum-known-e-2 : (t : ℕ) → dos-lts.Need-enum-known-e-2 (
   take-next-reads.Asked,

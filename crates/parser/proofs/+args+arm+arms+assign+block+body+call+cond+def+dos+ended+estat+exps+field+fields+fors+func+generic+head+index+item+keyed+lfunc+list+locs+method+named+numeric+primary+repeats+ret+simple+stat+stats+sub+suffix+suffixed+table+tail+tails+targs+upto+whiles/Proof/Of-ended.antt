@@ -15,9 +15,8 @@ use Rattle.tree.specs.Forest.{none}
 use Rattle.grammar.specs.Reading.{read, hold}
 use Rattle.grammar.specs.Levels.{readers}
 use Rattle.parser.specs.Contract.{again}
-use Rattle.parser.proofs.Kit.{kept, stop}
-use Rattle.parser.proofs.Looks.{expect-meets}
-use Rattle.parser.proofs.Grouped.{onward-later}
+use Rattle.parser.proofs.Kit.{kept, stop, onward-later}
+use Rattle.parser.proofs.Looks.{expect-after}
 
 pub ended-block-requires : (t : ℕ) → ended-lts.Need-block-requires (
   block-below t,
@@ -85,4 +84,4 @@ pub ended-returns-2 : (t : ℕ) → ended-lts.Need-returns-2 (
 unfolding read
 ended-returns-2 t c =
     let f1 = rw ((c .before .before .d) .given .1) at ((c .before .before .before .before .before .before .block) .ensures) in
-    onward-later (((c .before .before .before .before .before .before .before .before .before .before .args) .c) .place + 1) 0 _ _ f1 ((c .expect) .result) (expect-meets ((c .before .before .before .before .before .before .before .before .before .before .args) .stream .now) (ranks ((c .before .before .before .before .before .before .before .before .before .before .args) .ranking)) 0 (readers ((c .before .before .before .before .before .before .before .before .before .before .args) .stream .now) (ranks ((c .before .before .before .before .before .before .before .before .before .before .args) .ranking)) ((c .before .before .before .before .before .before .before .before .before .before .args) .g)) (hold 0 0 none) again ((c .before .before .d) .given .0 .0) 4 refl refl (((c .before .before .before .before .before .before .before .before .before .before .pre) .1) .formed) _ ((c .before .before .d) .given .0 .1 .0) 0 (omega (arith, f1 .room)) ((c .expect) .result) ((c .expect) .ensures)) (omega arith) (omega (arith, f1 .later))
+    onward-later (((c .before .before .before .before .before .before .before .before .before .before .args) .c) .place + 1) 0 _ _ f1 ((c .expect) .result) (expect-after ((c .before .before .before .before .before .before .before .before .before .before .args) .stream .now) (ranks ((c .before .before .before .before .before .before .before .before .before .before .args) .ranking)) 0 (readers ((c .before .before .before .before .before .before .before .before .before .before .args) .stream .now) (ranks ((c .before .before .before .before .before .before .before .before .before .before .args) .ranking)) ((c .before .before .before .before .before .before .before .before .before .before .args) .g)) (hold 0 0 none) again f1 4 refl refl (((c .before .before .before .before .before .before .before .before .before .before .pre) .1) .formed) 0 (omega arith) ((c .expect) .result) ((c .expect) .ensures)) (omega arith) (omega (arith, f1 .later))

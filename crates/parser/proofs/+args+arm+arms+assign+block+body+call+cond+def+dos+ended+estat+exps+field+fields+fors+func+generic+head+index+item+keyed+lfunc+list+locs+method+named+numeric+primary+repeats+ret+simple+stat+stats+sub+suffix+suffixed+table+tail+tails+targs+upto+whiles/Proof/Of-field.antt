@@ -18,17 +18,15 @@ use Rattle.operators.specs.Ranks.{ranks}
 use Rattle.tree.specs.Forest.{none}
 use Rattle.grammar.specs.Reading.{read, hold, last}
 use Rattle.grammar.specs.Levels.{readers}
-use Rattle.grammar.specs.Term.{second, _⇒_∣_}
+use Rattle.grammar.specs.Term.{second}
 use Rattle.grammar.specs.Term.{on}
 use Rattle.grammar.specs.Productions.{named}
 use Rattle.parser.specs.Contract.{again}
 use Rattle.parser.specs.Parts as P
-use Rattle.parser.proofs.Steps.{taken, next-fail, next-in, next-out}
-use Rattle.parser.proofs.Kit.{kept}
-use Rattle.parser.proofs.Tokens.{seconded-in, seconded-out, check-place, get-place}
-use Rattle.parser.proofs.Looks.{got-again, one, other}
+use Rattle.parser.proofs.Steps.{second-in, second-out, check-place, get-place}
+use Rattle.parser.proofs.Kit.{kept, ready-seen, moved}
+use Rattle.parser.proofs.Looks.{by-none, by-kind, by-others}
 use Rattle.grammar.specs.Productions.{field as field′}
-use Rattle.parser.proofs.Moved.{moved-meets}
 
 pub field-get-next-requires : (t : ℕ) → field-lts.Need-get-next-requires (
   get-next-reads.Asked,
@@ -98,7 +96,7 @@ pub field-named-requires : (t : ℕ) → field-lts.Need-named-requires (
   keyed-below t,
   keyed.Post,
 ) (field-at t) field.Post
-field-named-requires t c κs = (omega (arith, (c .before .before .before .before .before .before .before .before .before .before .before .pre) .0), record { formed = ((c .before .before .before .before .before .before .before .before .before .before .before .pre) .1) .formed; at = omega (arith, ((c .before .before .before .before .before .before .before .before .before .before .before .pre) .1) .at, (get-place ((c .before .before .before .before .before .before .before .before .before .before .before .args) .stream .now) ((c .before .before .before .before .before .before .before .before .before .before .before .args) .c) (sym ((c .before .before .before .before .before .before .before .before .get-next) .ensures) ∙ (c .before .before .before .before .before .before .t) .given .1)), (check-place ((c .before .before .before .before .before .before .before .before .before .before .before .args) .stream .now) ((c .before .before .before .before .before .before .t) .given .0 .1 .0) 1 37 ((c .before .before .before .check-ahead) .ensures))); room = omega (arith, ((c .before .before .before .before .before .before .before .before .before .before .before .pre) .1) .room, (get-place ((c .before .before .before .before .before .before .before .before .before .before .before .args) .stream .now) ((c .before .before .before .before .before .before .before .before .before .before .before .args) .c) (sym ((c .before .before .before .before .before .before .before .before .get-next) .ensures) ∙ (c .before .before .before .before .before .before .t) .given .1)), (check-place ((c .before .before .before .before .before .before .before .before .before .before .before .args) .stream .now) ((c .before .before .before .before .before .before .t) .given .0 .1 .0) 1 37 ((c .before .before .before .check-ahead) .ensures))) })
+field-named-requires t c κs = (omega (arith, (c .before .before .before .before .before .before .before .before .before .before .before .pre) .0), ready-seen ((c .before .before .before .before .before .before .before .before .before .before .before .pre) .1) (check-place ((c .before .before .before .before .before .before .before .before .before .before .before .args) .stream .now) ((c .before .before .before .before .before .before .t) .given .0 .1 .0) 1 37 ((c .before .before .before .check-ahead) .ensures) ∙ (get-place ((c .before .before .before .before .before .before .before .before .before .before .before .args) .stream .now) ((c .before .before .before .before .before .before .before .before .before .before .before .args) .c) (sym ((c .before .before .before .before .before .before .before .before .get-next) .ensures) ∙ (c .before .before .before .before .before .before .t) .given .1))))
 
 pub field-item-requires : (t : ℕ) → field-lts.Need-item-requires (
   get-next-reads.Asked,
@@ -112,7 +110,7 @@ pub field-item-requires : (t : ℕ) → field-lts.Need-item-requires (
   keyed-below t,
   keyed.Post,
 ) (field-at t) field.Post
-field-item-requires t c κs = (omega (arith, (c .before .before .before .before .before .before .before .before .before .before .before .pre) .0), record { formed = ((c .before .before .before .before .before .before .before .before .before .before .before .pre) .1) .formed; at = omega (arith, ((c .before .before .before .before .before .before .before .before .before .before .before .pre) .1) .at, (get-place ((c .before .before .before .before .before .before .before .before .before .before .before .args) .stream .now) ((c .before .before .before .before .before .before .before .before .before .before .before .args) .c) (sym ((c .before .before .before .before .before .before .before .before .get-next) .ensures) ∙ (c .before .before .before .before .before .before .t) .given .1)), (check-place ((c .before .before .before .before .before .before .before .before .before .before .before .args) .stream .now) ((c .before .before .before .before .before .before .t) .given .0 .1 .0) 1 37 ((c .before .before .before .check-ahead) .ensures))); room = omega (arith, ((c .before .before .before .before .before .before .before .before .before .before .before .pre) .1) .room, (get-place ((c .before .before .before .before .before .before .before .before .before .before .before .args) .stream .now) ((c .before .before .before .before .before .before .before .before .before .before .before .args) .c) (sym ((c .before .before .before .before .before .before .before .before .get-next) .ensures) ∙ (c .before .before .before .before .before .before .t) .given .1)), (check-place ((c .before .before .before .before .before .before .before .before .before .before .before .args) .stream .now) ((c .before .before .before .before .before .before .t) .given .0 .1 .0) 1 37 ((c .before .before .before .check-ahead) .ensures))) })
+field-item-requires t c κs = (omega (arith, (c .before .before .before .before .before .before .before .before .before .before .before .pre) .0), ready-seen ((c .before .before .before .before .before .before .before .before .before .before .before .pre) .1) (check-place ((c .before .before .before .before .before .before .before .before .before .before .before .args) .stream .now) ((c .before .before .before .before .before .before .t) .given .0 .1 .0) 1 37 ((c .before .before .before .check-ahead) .ensures) ∙ (get-place ((c .before .before .before .before .before .before .before .before .before .before .before .args) .stream .now) ((c .before .before .before .before .before .before .before .before .before .before .before .args) .c) (sym ((c .before .before .before .before .before .before .before .before .get-next) .ensures) ∙ (c .before .before .before .before .before .before .t) .given .1))))
 
 pub field-keyed-requires : (t : ℕ) → field-lts.Need-keyed-requires (
   get-next-reads.Asked,
@@ -126,7 +124,7 @@ pub field-keyed-requires : (t : ℕ) → field-lts.Need-keyed-requires (
   keyed-below t,
   keyed.Post,
 ) (field-at t) field.Post
-field-keyed-requires t c κs = (omega (arith, (c .before .before .before .before .before .before .before .before .pre) .0), record { formed = ((c .before .before .before .before .before .before .before .before .pre) .1) .formed; at = omega (arith, ((c .before .before .before .before .before .before .before .before .pre) .1) .at, (get-place ((c .before .before .before .before .before .before .before .before .args) .stream .now) ((c .before .before .before .before .before .before .before .before .args) .c) (sym ((c .before .before .before .before .before .get-next) .ensures) ∙ (c .before .before .before .t) .given .1))); room = omega (arith, ((c .before .before .before .before .before .before .before .before .pre) .1) .room, (get-place ((c .before .before .before .before .before .before .before .before .args) .stream .now) ((c .before .before .before .before .before .before .before .before .args) .c) (sym ((c .before .before .before .before .before .get-next) .ensures) ∙ (c .before .before .before .t) .given .1))) })
+field-keyed-requires t c κs = (omega (arith, (c .before .before .before .before .before .before .before .before .pre) .0), ready-seen ((c .before .before .before .before .before .before .before .before .pre) .1) (get-place ((c .before .before .before .before .before .before .before .before .args) .stream .now) ((c .before .before .before .before .before .before .before .before .args) .c) (sym ((c .before .before .before .before .before .get-next) .ensures) ∙ (c .before .before .before .t) .given .1)))
 
 pub field-item-requires-2 : (t : ℕ) → field-lts.Need-item-requires-2 (
   get-next-reads.Asked,
@@ -140,7 +138,7 @@ pub field-item-requires-2 : (t : ℕ) → field-lts.Need-item-requires-2 (
   keyed-below t,
   keyed.Post,
 ) (field-at t) field.Post
-field-item-requires-2 t c κs = (omega (arith, (c .before .before .before .before .before .before .before .before .pre) .0), record { formed = ((c .before .before .before .before .before .before .before .before .pre) .1) .formed; at = omega (arith, ((c .before .before .before .before .before .before .before .before .pre) .1) .at, (get-place ((c .before .before .before .before .before .before .before .before .args) .stream .now) ((c .before .before .before .before .before .before .before .before .args) .c) (sym ((c .before .before .before .before .before .get-next) .ensures) ∙ (c .before .before .before .t) .given .1))); room = omega (arith, ((c .before .before .before .before .before .before .before .before .pre) .1) .room, (get-place ((c .before .before .before .before .before .before .before .before .args) .stream .now) ((c .before .before .before .before .before .before .before .before .args) .c) (sym ((c .before .before .before .before .before .get-next) .ensures) ∙ (c .before .before .before .t) .given .1))) })
+field-item-requires-2 t c κs = (omega (arith, (c .before .before .before .before .before .before .before .before .pre) .0), ready-seen ((c .before .before .before .before .before .before .before .before .pre) .1) (get-place ((c .before .before .before .before .before .before .before .before .args) .stream .now) ((c .before .before .before .before .before .before .before .before .args) .c) (sym ((c .before .before .before .before .before .get-next) .ensures) ∙ (c .before .before .before .t) .given .1)))
 
 pub field-returns : (t : ℕ) → field-lts.Need-returns (
   get-next-reads.Asked,
@@ -155,7 +153,7 @@ pub field-returns : (t : ℕ) → field-lts.Need-returns (
   keyed.Post,
 ) (field-at t) field.Post
 unfolding read field′
-field-returns t c = next-fail ((c .before .before .before .before .before .before .args) .stream .now) (ranks ((c .before .before .before .before .before .before .args) .ranking)) 0 (readers ((c .before .before .before .before .before .before .args) .stream .now) (ranks ((c .before .before .before .before .before .before .args) .ranking)) ((c .before .before .before .before .before .before .args) .g)) (hold 0 0 none) again ((c .before .before .before .before .before .before .args) .c) (58 ∷ []) (on second (37 ∷ []) P.fielded P.item) (51 ⇒ P.keyed ∣ P.item) (sym ((c .before .before .before .get-next) .ensures) ∙ (c .before .e) .given .1)
+field-returns t c = by-none ((c .before .before .before .before .before .before .args) .stream .now) (ranks ((c .before .before .before .before .before .before .args) .ranking)) 0 (readers ((c .before .before .before .before .before .before .args) .stream .now) (ranks ((c .before .before .before .before .before .before .args) .ranking)) ((c .before .before .before .before .before .before .args) .g)) (hold 0 0 none) again ((c .before .before .before .before .before .before .args) .c) (58, (on second (37 ∷ []) P.fielded P.item)) ((51, P.keyed) ∷ []) P.item (sym ((c .before .before .before .get-next) .ensures) ∙ (c .before .e) .given .1)
 
 pub field-same-length : (t : ℕ) → field-lts.Need-same-length (
   get-next-reads.Asked,
@@ -184,7 +182,7 @@ pub field-returns-2 : (t : ℕ) → field-lts.Need-returns-2 (
   keyed.Post,
 ) (field-at t) field.Post
 unfolding read field′
-field-returns-2 t c = moved-meets ((c .before .before .before .before .before .before .before .before .before .before .before .before .before .before .args) .stream .now) _ _ ((c .before .before .before .before .before .before .before .before .before .before .before .before .before .before .args) .used) 0 ((c .before .before .before .before .before .before .before .before .before .before .before .before .before .before .args) .nodes .now) ((c .before .before .named) .last .1 .0) ((c .before .before .named) .result) (next-in ((c .before .before .before .before .before .before .before .before .before .before .before .before .before .before .args) .stream .now) (ranks ((c .before .before .before .before .before .before .before .before .before .before .before .before .before .before .args) .ranking)) 0 (readers ((c .before .before .before .before .before .before .before .before .before .before .before .before .before .before .args) .stream .now) (ranks ((c .before .before .before .before .before .before .before .before .before .before .before .before .before .before .args) .ranking)) ((c .before .before .before .before .before .before .before .before .before .before .before .before .before .before .args) .g)) (hold 0 0 none) again ((c .before .before .before .before .before .before .before .before .before .before .before .before .before .before .args) .c) (58 ∷ []) (on second (37 ∷ []) P.fielded P.item) (51 ⇒ P.keyed ∣ P.item) (sym ((c .before .before .before .before .before .before .before .before .before .before .before .get-next) .ensures) ∙ (c .before .before .before .before .before .before .before .before .before .t) .given .1) (one ((c .before .before .before .before .before .before .before .match2) .keys1)) ∙ seconded-in ((c .before .before .before .before .before .before .before .before .before .before .before .before .before .before .args) .stream .now) (ranks ((c .before .before .before .before .before .before .before .before .before .before .before .before .before .before .args) .ranking)) 0 (readers ((c .before .before .before .before .before .before .before .before .before .before .before .before .before .before .args) .stream .now) (ranks ((c .before .before .before .before .before .before .before .before .before .before .before .before .before .before .args) .ranking)) ((c .before .before .before .before .before .before .before .before .before .before .before .before .before .before .args) .g)) (hold 0 0 none) again ((c .before .before .before .before .before .before .before .before .before .t) .given .0 .1 .0) ((c .before .before .before .before .before .before .check-ahead) .result) 37 P.fielded P.item (λ z. omega arith) ((c .before .before .before .before .before .before .check-ahead) .ensures) ((c .before .before .before .before .if1) .taken)) (omega (arith, (get-place ((c .before .before .before .before .before .before .before .before .before .before .before .before .before .before .args) .stream .now) ((c .before .before .before .before .before .before .before .before .before .before .before .before .before .before .args) .c) (sym ((c .before .before .before .before .before .before .before .before .before .before .before .get-next) .ensures) ∙ (c .before .before .before .before .before .before .before .before .before .t) .given .1)), (check-place ((c .before .before .before .before .before .before .before .before .before .before .before .before .before .before .args) .stream .now) ((c .before .before .before .before .before .before .before .before .before .t) .given .0 .1 .0) 1 37 ((c .before .before .before .before .before .before .check-ahead) .ensures)))) ((c .before .before .named) .ensures)
+field-returns-2 t c = moved ((c .before .before .before .before .before .before .before .before .before .before .before .before .before .before .args) .stream .now) ((c .before .before .before .before .before .before .before .before .before .before .before .before .before .before .args) .used) 0 ((c .before .before .before .before .before .before .before .before .before .before .before .before .before .before .args) .nodes .now) ((c .before .before .named) .last .1 .0) ((c .before .before .named) .result) (by-kind ((c .before .before .before .before .before .before .before .before .before .before .before .before .before .before .args) .stream .now) (ranks ((c .before .before .before .before .before .before .before .before .before .before .before .before .before .before .args) .ranking)) 0 (readers ((c .before .before .before .before .before .before .before .before .before .before .before .before .before .before .args) .stream .now) (ranks ((c .before .before .before .before .before .before .before .before .before .before .before .before .before .before .args) .ranking)) ((c .before .before .before .before .before .before .before .before .before .before .before .before .before .before .args) .g)) (hold 0 0 none) again ((c .before .before .before .before .before .before .before .before .before .before .before .before .before .before .args) .c) (58, (on second (37 ∷ []) P.fielded P.item)) ((51, P.keyed) ∷ []) P.item (sym ((c .before .before .before .before .before .before .before .before .before .before .before .get-next) .ensures) ∙ (c .before .before .before .before .before .before .before .before .before .t) .given .1) ((c .before .before .before .before .before .before .before .match2) .keys1) ∙ second-in ((c .before .before .before .before .before .before .before .before .before .before .before .before .before .before .args) .stream .now) (ranks ((c .before .before .before .before .before .before .before .before .before .before .before .before .before .before .args) .ranking)) 0 (readers ((c .before .before .before .before .before .before .before .before .before .before .before .before .before .before .args) .stream .now) (ranks ((c .before .before .before .before .before .before .before .before .before .before .before .before .before .before .args) .ranking)) ((c .before .before .before .before .before .before .before .before .before .before .before .before .before .before .args) .g)) (hold 0 0 none) again ((c .before .before .before .before .before .before .before .before .before .t) .given .0 .1 .0) 37 P.fielded P.item (λ z. omega arith) ((c .before .before .before .before .before .before .check-ahead) .ensures) ((c .before .before .before .before .if1) .taken)) (omega (arith, (check-place ((c .before .before .before .before .before .before .before .before .before .before .before .before .before .before .args) .stream .now) ((c .before .before .before .before .before .before .before .before .before .t) .given .0 .1 .0) 1 37 ((c .before .before .before .before .before .before .check-ahead) .ensures) ∙ (get-place ((c .before .before .before .before .before .before .before .before .before .before .before .before .before .before .args) .stream .now) ((c .before .before .before .before .before .before .before .before .before .before .before .before .before .before .args) .c) (sym ((c .before .before .before .before .before .before .before .before .before .before .before .get-next) .ensures) ∙ (c .before .before .before .before .before .before .before .before .before .t) .given .1))))) ((c .before .before .named) .ensures)
 
 pub field-same-length-2 : (t : ℕ) → field-lts.Need-same-length-2 (
   get-next-reads.Asked,
@@ -213,7 +211,7 @@ pub field-returns-3 : (t : ℕ) → field-lts.Need-returns-3 (
   keyed.Post,
 ) (field-at t) field.Post
 unfolding read field′
-field-returns-3 t c = moved-meets ((c .before .before .before .before .before .before .before .before .before .before .before .before .before .before .args) .stream .now) _ _ ((c .before .before .before .before .before .before .before .before .before .before .before .before .before .before .args) .used) 0 ((c .before .before .before .before .before .before .before .before .before .before .before .before .before .before .args) .nodes .now) ((c .before .before .item) .last .1 .0) ((c .before .before .item) .result) (next-in ((c .before .before .before .before .before .before .before .before .before .before .before .before .before .before .args) .stream .now) (ranks ((c .before .before .before .before .before .before .before .before .before .before .before .before .before .before .args) .ranking)) 0 (readers ((c .before .before .before .before .before .before .before .before .before .before .before .before .before .before .args) .stream .now) (ranks ((c .before .before .before .before .before .before .before .before .before .before .before .before .before .before .args) .ranking)) ((c .before .before .before .before .before .before .before .before .before .before .before .before .before .before .args) .g)) (hold 0 0 none) again ((c .before .before .before .before .before .before .before .before .before .before .before .before .before .before .args) .c) (58 ∷ []) (on second (37 ∷ []) P.fielded P.item) (51 ⇒ P.keyed ∣ P.item) (sym ((c .before .before .before .before .before .before .before .before .before .before .before .get-next) .ensures) ∙ (c .before .before .before .before .before .before .before .before .before .t) .given .1) (one ((c .before .before .before .before .before .before .before .match2) .keys1)) ∙ seconded-out ((c .before .before .before .before .before .before .before .before .before .before .before .before .before .before .args) .stream .now) (ranks ((c .before .before .before .before .before .before .before .before .before .before .before .before .before .before .args) .ranking)) 0 (readers ((c .before .before .before .before .before .before .before .before .before .before .before .before .before .before .args) .stream .now) (ranks ((c .before .before .before .before .before .before .before .before .before .before .before .before .before .before .args) .ranking)) ((c .before .before .before .before .before .before .before .before .before .before .before .before .before .before .args) .g)) (hold 0 0 none) again ((c .before .before .before .before .before .before .before .before .before .t) .given .0 .1 .0) ((c .before .before .before .before .before .before .check-ahead) .result) 37 P.fielded P.item (λ z. omega arith) ((c .before .before .before .before .before .before .check-ahead) .ensures) ((c .before .before .before .before .if1) .left)) (omega (arith, (get-place ((c .before .before .before .before .before .before .before .before .before .before .before .before .before .before .args) .stream .now) ((c .before .before .before .before .before .before .before .before .before .before .before .before .before .before .args) .c) (sym ((c .before .before .before .before .before .before .before .before .before .before .before .get-next) .ensures) ∙ (c .before .before .before .before .before .before .before .before .before .t) .given .1)), (check-place ((c .before .before .before .before .before .before .before .before .before .before .before .before .before .before .args) .stream .now) ((c .before .before .before .before .before .before .before .before .before .t) .given .0 .1 .0) 1 37 ((c .before .before .before .before .before .before .check-ahead) .ensures)))) ((c .before .before .item) .ensures)
+field-returns-3 t c = moved ((c .before .before .before .before .before .before .before .before .before .before .before .before .before .before .args) .stream .now) ((c .before .before .before .before .before .before .before .before .before .before .before .before .before .before .args) .used) 0 ((c .before .before .before .before .before .before .before .before .before .before .before .before .before .before .args) .nodes .now) ((c .before .before .item) .last .1 .0) ((c .before .before .item) .result) (by-kind ((c .before .before .before .before .before .before .before .before .before .before .before .before .before .before .args) .stream .now) (ranks ((c .before .before .before .before .before .before .before .before .before .before .before .before .before .before .args) .ranking)) 0 (readers ((c .before .before .before .before .before .before .before .before .before .before .before .before .before .before .args) .stream .now) (ranks ((c .before .before .before .before .before .before .before .before .before .before .before .before .before .before .args) .ranking)) ((c .before .before .before .before .before .before .before .before .before .before .before .before .before .before .args) .g)) (hold 0 0 none) again ((c .before .before .before .before .before .before .before .before .before .before .before .before .before .before .args) .c) (58, (on second (37 ∷ []) P.fielded P.item)) ((51, P.keyed) ∷ []) P.item (sym ((c .before .before .before .before .before .before .before .before .before .before .before .get-next) .ensures) ∙ (c .before .before .before .before .before .before .before .before .before .t) .given .1) ((c .before .before .before .before .before .before .before .match2) .keys1) ∙ second-out ((c .before .before .before .before .before .before .before .before .before .before .before .before .before .before .args) .stream .now) (ranks ((c .before .before .before .before .before .before .before .before .before .before .before .before .before .before .args) .ranking)) 0 (readers ((c .before .before .before .before .before .before .before .before .before .before .before .before .before .before .args) .stream .now) (ranks ((c .before .before .before .before .before .before .before .before .before .before .before .before .before .before .args) .ranking)) ((c .before .before .before .before .before .before .before .before .before .before .before .before .before .before .args) .g)) (hold 0 0 none) again ((c .before .before .before .before .before .before .before .before .before .t) .given .0 .1 .0) 37 P.fielded P.item (λ z. omega arith) ((c .before .before .before .before .before .before .check-ahead) .ensures) ((c .before .before .before .before .if1) .left)) (omega (arith, (check-place ((c .before .before .before .before .before .before .before .before .before .before .before .before .before .before .args) .stream .now) ((c .before .before .before .before .before .before .before .before .before .t) .given .0 .1 .0) 1 37 ((c .before .before .before .before .before .before .check-ahead) .ensures) ∙ (get-place ((c .before .before .before .before .before .before .before .before .before .before .before .before .before .before .args) .stream .now) ((c .before .before .before .before .before .before .before .before .before .before .before .before .before .before .args) .c) (sym ((c .before .before .before .before .before .before .before .before .before .before .before .get-next) .ensures) ∙ (c .before .before .before .before .before .before .before .before .before .t) .given .1))))) ((c .before .before .item) .ensures)
 
 pub field-same-length-3 : (t : ℕ) → field-lts.Need-same-length-3 (
   get-next-reads.Asked,
@@ -242,7 +240,7 @@ pub field-returns-4 : (t : ℕ) → field-lts.Need-returns-4 (
   keyed.Post,
 ) (field-at t) field.Post
 unfolding read field′
-field-returns-4 t c = moved-meets ((c .before .before .before .before .before .before .before .before .before .before .before .args) .stream .now) _ _ ((c .before .before .before .before .before .before .before .before .before .before .before .args) .used) 0 ((c .before .before .before .before .before .before .before .before .before .before .before .args) .nodes .now) ((c .before .before .keyed) .last .1 .0) ((c .before .before .keyed) .result) (next-out ((c .before .before .before .before .before .before .before .before .before .before .before .args) .stream .now) (ranks ((c .before .before .before .before .before .before .before .before .before .before .before .args) .ranking)) 0 (readers ((c .before .before .before .before .before .before .before .before .before .before .before .args) .stream .now) (ranks ((c .before .before .before .before .before .before .before .before .before .before .before .args) .ranking)) ((c .before .before .before .before .before .before .before .before .before .before .before .args) .g)) (hold 0 0 none) again ((c .before .before .before .before .before .before .before .before .before .before .before .args) .c) (58 ∷ []) (on second (37 ∷ []) P.fielded P.item) (51 ⇒ P.keyed ∣ P.item) (sym ((c .before .before .before .before .before .before .before .before .get-next) .ensures) ∙ (c .before .before .before .before .before .before .t) .given .1) (other {x = ((c .before .before .before .before .before .before .t) .given .0 .0) .kind} {k = 58} (λ z. omega (arith, z, (c .before .before .before .before .match2) .keys2))) ∙ next-in ((c .before .before .before .before .before .before .before .before .before .before .before .args) .stream .now) (ranks ((c .before .before .before .before .before .before .before .before .before .before .before .args) .ranking)) 0 (readers ((c .before .before .before .before .before .before .before .before .before .before .before .args) .stream .now) (ranks ((c .before .before .before .before .before .before .before .before .before .before .before .args) .ranking)) ((c .before .before .before .before .before .before .before .before .before .before .before .args) .g)) (hold 0 0 none) again ((c .before .before .before .before .before .before .t) .given .0 .1 .0) (51 ∷ []) P.keyed P.item (got-again ((c .before .before .before .before .before .before .before .before .before .before .before .args) .stream .now) ((c .before .before .before .before .before .before .before .before .before .before .before .args) .c) (sym ((c .before .before .before .before .before .before .before .before .get-next) .ensures) ∙ (c .before .before .before .before .before .before .t) .given .1)) (one ((c .before .before .before .before .match2) .keys2))) (omega (arith, (get-place ((c .before .before .before .before .before .before .before .before .before .before .before .args) .stream .now) ((c .before .before .before .before .before .before .before .before .before .before .before .args) .c) (sym ((c .before .before .before .before .before .before .before .before .get-next) .ensures) ∙ (c .before .before .before .before .before .before .t) .given .1)))) ((c .before .before .keyed) .ensures)
+field-returns-4 t c = moved ((c .before .before .before .before .before .before .before .before .before .before .before .args) .stream .now) ((c .before .before .before .before .before .before .before .before .before .before .before .args) .used) 0 ((c .before .before .before .before .before .before .before .before .before .before .before .args) .nodes .now) ((c .before .before .keyed) .last .1 .0) ((c .before .before .keyed) .result) (by-kind ((c .before .before .before .before .before .before .before .before .before .before .before .args) .stream .now) (ranks ((c .before .before .before .before .before .before .before .before .before .before .before .args) .ranking)) 0 (readers ((c .before .before .before .before .before .before .before .before .before .before .before .args) .stream .now) (ranks ((c .before .before .before .before .before .before .before .before .before .before .before .args) .ranking)) ((c .before .before .before .before .before .before .before .before .before .before .before .args) .g)) (hold 0 0 none) again ((c .before .before .before .before .before .before .before .before .before .before .before .args) .c) (58, (on second (37 ∷ []) P.fielded P.item)) ((51, P.keyed) ∷ []) P.item (sym ((c .before .before .before .before .before .before .before .before .get-next) .ensures) ∙ (c .before .before .before .before .before .before .t) .given .1) ((c .before .before .before .before .match2) .keys2)) (omega (arith, (get-place ((c .before .before .before .before .before .before .before .before .before .before .before .args) .stream .now) ((c .before .before .before .before .before .before .before .before .before .before .before .args) .c) (sym ((c .before .before .before .before .before .before .before .before .get-next) .ensures) ∙ (c .before .before .before .before .before .before .t) .given .1)))) ((c .before .before .keyed) .ensures)
 
 pub field-same-length-4 : (t : ℕ) → field-lts.Need-same-length-4 (
   get-next-reads.Asked,
@@ -271,4 +269,4 @@ pub field-returns-5 : (t : ℕ) → field-lts.Need-returns-5 (
   keyed.Post,
 ) (field-at t) field.Post
 unfolding read field′
-field-returns-5 t c = moved-meets ((c .before .before .before .before .before .before .before .before .before .before .before .args) .stream .now) _ _ ((c .before .before .before .before .before .before .before .before .before .before .before .args) .used) 0 ((c .before .before .before .before .before .before .before .before .before .before .before .args) .nodes .now) ((c .before .before .item2) .last .1 .0) ((c .before .before .item2) .result) (next-out ((c .before .before .before .before .before .before .before .before .before .before .before .args) .stream .now) (ranks ((c .before .before .before .before .before .before .before .before .before .before .before .args) .ranking)) 0 (readers ((c .before .before .before .before .before .before .before .before .before .before .before .args) .stream .now) (ranks ((c .before .before .before .before .before .before .before .before .before .before .before .args) .ranking)) ((c .before .before .before .before .before .before .before .before .before .before .before .args) .g)) (hold 0 0 none) again ((c .before .before .before .before .before .before .before .before .before .before .before .args) .c) (58 ∷ []) (on second (37 ∷ []) P.fielded P.item) (51 ⇒ P.keyed ∣ P.item) (sym ((c .before .before .before .before .before .before .before .before .get-next) .ensures) ∙ (c .before .before .before .before .before .before .t) .given .1) (other ((c .before .before .before .before .match2) .rest .0 .1)) ∙ next-out ((c .before .before .before .before .before .before .before .before .before .before .before .args) .stream .now) (ranks ((c .before .before .before .before .before .before .before .before .before .before .before .args) .ranking)) 0 (readers ((c .before .before .before .before .before .before .before .before .before .before .before .args) .stream .now) (ranks ((c .before .before .before .before .before .before .before .before .before .before .before .args) .ranking)) ((c .before .before .before .before .before .before .before .before .before .before .before .args) .g)) (hold 0 0 none) again ((c .before .before .before .before .before .before .t) .given .0 .1 .0) (51 ∷ []) P.keyed P.item (got-again ((c .before .before .before .before .before .before .before .before .before .before .before .args) .stream .now) ((c .before .before .before .before .before .before .before .before .before .before .before .args) .c) (sym ((c .before .before .before .before .before .before .before .before .get-next) .ensures) ∙ (c .before .before .before .before .before .before .t) .given .1)) (other ((c .before .before .before .before .match2) .rest .1))) (omega (arith, (get-place ((c .before .before .before .before .before .before .before .before .before .before .before .args) .stream .now) ((c .before .before .before .before .before .before .before .before .before .before .before .args) .c) (sym ((c .before .before .before .before .before .before .before .before .get-next) .ensures) ∙ (c .before .before .before .before .before .before .t) .given .1)))) ((c .before .before .item2) .ensures)
+field-returns-5 t c = moved ((c .before .before .before .before .before .before .before .before .before .before .before .args) .stream .now) ((c .before .before .before .before .before .before .before .before .before .before .before .args) .used) 0 ((c .before .before .before .before .before .before .before .before .before .before .before .args) .nodes .now) ((c .before .before .item2) .last .1 .0) ((c .before .before .item2) .result) (by-others ((c .before .before .before .before .before .before .before .before .before .before .before .args) .stream .now) (ranks ((c .before .before .before .before .before .before .before .before .before .before .before .args) .ranking)) 0 (readers ((c .before .before .before .before .before .before .before .before .before .before .before .args) .stream .now) (ranks ((c .before .before .before .before .before .before .before .before .before .before .before .args) .ranking)) ((c .before .before .before .before .before .before .before .before .before .before .before .args) .g)) (hold 0 0 none) again ((c .before .before .before .before .before .before .before .before .before .before .before .args) .c) (58, (on second (37 ∷ []) P.fielded P.item)) ((51, P.keyed) ∷ []) P.item (sym ((c .before .before .before .before .before .before .before .before .get-next) .ensures) ∙ (c .before .before .before .before .before .before .t) .given .1) ((c .before .before .before .before .match2) .rest .0 .1) ((c .before .before .before .before .match2) .rest .1)) (omega (arith, (get-place ((c .before .before .before .before .before .before .before .before .before .before .before .args) .stream .now) ((c .before .before .before .before .before .before .before .before .before .before .before .args) .c) (sym ((c .before .before .before .before .before .before .before .before .get-next) .ensures) ∙ (c .before .before .before .before .before .before .t) .given .1)))) ((c .before .before .item2) .ensures)

@@ -14,29 +14,27 @@ use Rattle.parser.proofs.+args+arm+arms+assign+block+body+call+cond+def
 use Rattle.parser.proofs.+args+arm+arms+assign+block+body+call+cond+def+dos+ended+estat+exps+field+fields+fors+func+generic+head+index+item+keyed+lfunc+list+locs+method+named+numeric+primary+repeats+ret+simple+stat+stats+sub+suffix+suffixed+table+tail+tails+targs+upto+whiles.Proof.Levels.{fors-at, generic-below, numeric-below}
 use mathlib.Core.Path.{_≡_, refl, sym, ap, _∙_}
 use mathlib.Core.List.{[], _∷_}
-use Prim.Native.Nat.{ℕ, _+_, _-_}
+use Prim.Native.Nat.{ℕ, _-_}
 use native.Mathlib.Omega.{arith}
 use Rattle.operators.specs.Ranks.{ranks}
+use Rattle.stream.specs.Words.{line as lineAt}
 use lib.ListN.{length}
 use Rattle.tree.specs.Forest.{none}
 use Rattle.grammar.specs.Reading.{fail, read, hold, wrap, last, loop}
 use Rattle.grammar.specs.Levels.{readers}
-use Rattle.grammar.specs.Term.{next, opening, back}
+use Rattle.grammar.specs.Term.{next, opening, back, _⇒_∣_}
 use Rattle.grammar.specs.Term.{on, refuse, node}
-use Rattle.grammar.specs.Member.{member}
 use Rattle.grammar.specs.Productions.{named}
 use Rattle.parser.specs.Contract.{says, again}
 use Rattle.parser.specs.Parts as P
-use Rattle.parser.proofs.Steps.{took-kind, took-name, next-fail, next-in, next-out}
-use Rattle.parser.proofs.Kit.{kept, stop, past, both}
-use Rattle.parser.proofs.Tokens.{name-fail, word-fail, name-fine, word-fine, get-place}
-use Rattle.parser.proofs.Looks.{got-again, refused, settled, lead-stop, leads-is, one, other}
+use Rattle.parser.proofs.Steps.{took-kind, took-name, next-in, next-out, get-place}
+use Rattle.parser.proofs.Among.{among, nor}
+use Rattle.parser.proofs.Kit.{kept, moved, stop, past, both}
+use Rattle.parser.proofs.Tokens.{paid, name-fail, word-fail, name-fine, word-fine}
+use Rattle.parser.proofs.Looks.{got-again, refused, by-none, by-kind, by-others}
+use Rattle.parser.proofs.Around.{settled, lead-stop, leads-is}
 use Rattle.grammar.specs.Productions.{explist, retstat, block as block′, forstat}
-use Rattle.stream.specs.Words.{kind, payload}
-use Rattle.parser.proofs.Moved.{moved-meets}
-use Rattle.stream.specs.Words.{line as lineAt}
-use Rattle.stream.specs.declared.reader.Token.{Token}
-use Rattle.parser.proofs.Shapes.{not-among}
+use Rattle.stream.specs.Words.{payload}
 
 pub fors-expect-next-requires : (t : ℕ) → fors-lts.Need-expect-next-requires (
   expect-next-reads.Asked,
@@ -216,9 +214,9 @@ pub fors-numeric-requires : (t : ℕ) → fors-lts.Need-numeric-requires (
 fors-numeric-requires t c κs =
     let f1 = word-fine ((c .before .before .before .before .before .before .before .before .before .before .before .before .before .before .before .before .args) .stream .now) (ranks ((c .before .before .before .before .before .before .before .before .before .before .before .before .before .before .before .before .args) .ranking)) 0 (readers ((c .before .before .before .before .before .before .before .before .before .before .before .before .before .before .before .before .args) .stream .now) (ranks ((c .before .before .before .before .before .before .before .before .before .before .before .before .before .before .before .before .args) .ranking)) ((c .before .before .before .before .before .before .before .before .before .before .before .before .before .before .before .before .args) .g)) (hold 0 0 none) again ((c .before .before .before .before .before .before .before .before .before .before .before .before .before .before .before .before .args) .c) ((c .before .before .before .before .before .before .before .before .before .before .before .before .before .before .before .before .args) .nodes .now) ((c .before .before .before .before .before .before .before .before .before .before .before .before .before .before .before .before .args) .used) 0 (((c .before .before .before .before .before .before .before .before .before .before .before .before .before .before .before .before .pre) .1 .0) .formed) (omega (arith, ((c .before .before .before .before .before .before .before .before .before .before .before .before .before .before .before .before .pre) .1 .0) .room)) 6 refl refl ((sym ((c .before .before .before .before .before .before .before .before .before .before .before .before .before .expect-next) .ensures)) ∙ (c .before .before .before .before .before .before .before .before .before .before .before .d) .given .1) in
     let f2 = name-fine ((c .before .before .before .before .before .before .before .before .before .before .before .before .before .before .before .before .args) .stream .now) (ranks ((c .before .before .before .before .before .before .before .before .before .before .before .before .before .before .before .before .args) .ranking)) 0 (readers ((c .before .before .before .before .before .before .before .before .before .before .before .before .before .before .before .before .args) .stream .now) (ranks ((c .before .before .before .before .before .before .before .before .before .before .before .before .before .before .before .before .args) .ranking)) ((c .before .before .before .before .before .before .before .before .before .before .before .before .before .before .before .before .args) .g)) (hold 0 0 none) again ((c .before .before .before .before .before .before .before .before .before .before .before .d) .given .0 .1 .0) ((c .before .before .before .before .before .before .before .before .before .before .before .before .before .before .before .before .args) .nodes .now) ((c .before .before .before .before .before .before .before .before .before .before .before .before .before .before .before .before .args) .used) 0 (((c .before .before .before .before .before .before .before .before .before .before .before .before .before .before .before .before .pre) .1 .0) .formed) (omega (arith, ((c .before .before .before .before .before .before .before .before .before .before .before .before .before .before .before .before .pre) .1 .0) .room, f1 .later)) ((sym ((c .before .before .before .before .before .before .before .before .before .expect-name) .ensures)) ∙ (c .before .before .before .before .before .before .before .n) .given .1) in
-    let p : ((c .before .before .before .before .before .before .before .before .before .before .before .before .before .before .before .before .args) .c) .place ≡ ((c .before .before .before .t) .given .0 .1 .0) .place - 2 = omega (arith, (took-kind ((c .before .before .before .before .before .before .before .before .before .before .before .before .before .before .before .before .args) .stream .now) ((c .before .before .before .before .before .before .before .before .before .before .before .before .before .before .before .before .args) .c) 6 ((sym ((c .before .before .before .before .before .before .before .before .before .before .before .before .before .expect-next) .ensures)) ∙ (c .before .before .before .before .before .before .before .before .before .before .before .d) .given .1) .0) .place, (took-name ((c .before .before .before .before .before .before .before .before .before .before .before .before .before .before .before .before .args) .stream .now) ((c .before .before .before .before .before .before .before .before .before .before .before .d) .given .0 .1 .0) ((sym ((c .before .before .before .before .before .before .before .before .before .expect-name) .ensures)) ∙ (c .before .before .before .before .before .before .before .n) .given .1)) .place, (get-place ((c .before .before .before .before .before .before .before .before .before .before .before .before .before .before .before .before .args) .stream .now) ((c .before .before .before .before .before .before .before .n) .given .0 .1 .0) (sym ((c .before .before .before .before .before .get-next) .ensures) ∙ (c .before .before .before .t) .given .1))) in
+    let p : ((c .before .before .before .before .before .before .before .before .before .before .before .before .before .before .before .before .args) .c) .place ≡ ((c .before .before .before .t) .given .0 .1 .0) .place - 2 = omega (arith, (took-kind ((c .before .before .before .before .before .before .before .before .before .before .before .before .before .before .before .before .args) .stream .now) ((c .before .before .before .before .before .before .before .before .before .before .before .before .before .before .before .before .args) .c) 6 ((sym ((c .before .before .before .before .before .before .before .before .before .before .before .before .before .expect-next) .ensures)) ∙ (c .before .before .before .before .before .before .before .before .before .before .before .d) .given .1)) .place, (took-name ((c .before .before .before .before .before .before .before .before .before .before .before .before .before .before .before .before .args) .stream .now) ((c .before .before .before .before .before .before .before .before .before .before .before .d) .given .0 .1 .0) ((sym ((c .before .before .before .before .before .before .before .before .before .expect-name) .ensures)) ∙ (c .before .before .before .before .before .before .before .n) .given .1)) .place, (get-place ((c .before .before .before .before .before .before .before .before .before .before .before .before .before .before .before .before .args) .stream .now) ((c .before .before .before .before .before .before .before .n) .given .0 .1 .0) (sym ((c .before .before .before .before .before .get-next) .ensures) ∙ (c .before .before .before .t) .given .1))) in
     let q : ((c .before .before .before .before .before .before .before .before .before .before .before .d) .given .0 .1 .0) .place ≡ ((c .before .before .before .t) .given .0 .1 .0) .place - 1 = omega (arith, (took-name ((c .before .before .before .before .before .before .before .before .before .before .before .before .before .before .before .before .args) .stream .now) ((c .before .before .before .before .before .before .before .before .before .before .before .d) .given .0 .1 .0) ((sym ((c .before .before .before .before .before .before .before .before .before .expect-name) .ensures)) ∙ (c .before .before .before .before .before .before .before .n) .given .1)) .place, (get-place ((c .before .before .before .before .before .before .before .before .before .before .before .before .before .before .before .before .args) .stream .now) ((c .before .before .before .before .before .before .before .n) .given .0 .1 .0) (sym ((c .before .before .before .before .before .get-next) .ensures) ∙ (c .before .before .before .t) .given .1))) in
-    (omega (arith, (c .before .before .before .before .before .before .before .before .before .before .before .before .before .before .before .before .pre) .0), (record { formed = ((c .before .before .before .before .before .before .before .before .before .before .before .before .before .before .before .before .pre) .1 .0) .formed; at = omega (arith, f2 .at, (get-place ((c .before .before .before .before .before .before .before .before .before .before .before .before .before .before .before .before .args) .stream .now) ((c .before .before .before .before .before .before .before .n) .given .0 .1 .0) (sym ((c .before .before .before .before .before .get-next) .ensures) ∙ (c .before .before .before .t) .given .1))); room = omega (arith, ((c .before .before .before .before .before .before .before .before .before .before .before .before .before .before .before .before .pre) .1 .0) .room, (took-kind ((c .before .before .before .before .before .before .before .before .before .before .before .before .before .before .before .before .args) .stream .now) ((c .before .before .before .before .before .before .before .before .before .before .before .before .before .before .before .before .args) .c) 6 ((sym ((c .before .before .before .before .before .before .before .before .before .before .before .before .before .expect-next) .ensures)) ∙ (c .before .before .before .before .before .before .before .before .before .before .before .d) .given .1) .0) .place, (took-name ((c .before .before .before .before .before .before .before .before .before .before .before .before .before .before .before .before .args) .stream .now) ((c .before .before .before .before .before .before .before .before .before .before .before .d) .given .0 .1 .0) ((sym ((c .before .before .before .before .before .before .before .before .before .expect-name) .ensures)) ∙ (c .before .before .before .before .before .before .before .n) .given .1)) .place, (get-place ((c .before .before .before .before .before .before .before .before .before .before .before .before .before .before .before .before .args) .stream .now) ((c .before .before .before .before .before .before .before .n) .given .0 .1 .0) (sym ((c .before .before .before .before .before .get-next) .ensures) ∙ (c .before .before .before .t) .given .1))) }, (c .before .before .before .before .before .before .before .before .before .before .before .before .before .before .before .before .pre) .1 .1 ∙ ap (lineAt ((c .before .before .before .before .before .before .before .before .before .before .before .before .before .before .before .before .args) .stream .now)) p, ap (λ (z : Token). z .payload) ((took-name ((c .before .before .before .before .before .before .before .before .before .before .before .before .before .before .before .before .args) .stream .now) ((c .before .before .before .before .before .before .before .before .before .before .before .d) .given .0 .1 .0) ((sym ((c .before .before .before .before .before .before .before .before .before .expect-name) .ensures)) ∙ (c .before .before .before .before .before .before .before .n) .given .1)) .token) ∙ ap (payload ((c .before .before .before .before .before .before .before .before .before .before .before .before .before .before .before .before .args) .stream .now)) q))
+    (omega (arith, (c .before .before .before .before .before .before .before .before .before .before .before .before .before .before .before .before .pre) .0), (record { formed = ((c .before .before .before .before .before .before .before .before .before .before .before .before .before .before .before .before .pre) .1 .0) .formed; at = omega (arith, f2 .at, (get-place ((c .before .before .before .before .before .before .before .before .before .before .before .before .before .before .before .before .args) .stream .now) ((c .before .before .before .before .before .before .before .n) .given .0 .1 .0) (sym ((c .before .before .before .before .before .get-next) .ensures) ∙ (c .before .before .before .t) .given .1))); room = omega (arith, ((c .before .before .before .before .before .before .before .before .before .before .before .before .before .before .before .before .pre) .1 .0) .room, (took-kind ((c .before .before .before .before .before .before .before .before .before .before .before .before .before .before .before .before .args) .stream .now) ((c .before .before .before .before .before .before .before .before .before .before .before .before .before .before .before .before .args) .c) 6 ((sym ((c .before .before .before .before .before .before .before .before .before .before .before .before .before .expect-next) .ensures)) ∙ (c .before .before .before .before .before .before .before .before .before .before .before .d) .given .1)) .place, (took-name ((c .before .before .before .before .before .before .before .before .before .before .before .before .before .before .before .before .args) .stream .now) ((c .before .before .before .before .before .before .before .before .before .before .before .d) .given .0 .1 .0) ((sym ((c .before .before .before .before .before .before .before .before .before .expect-name) .ensures)) ∙ (c .before .before .before .before .before .before .before .n) .given .1)) .place, (get-place ((c .before .before .before .before .before .before .before .before .before .before .before .before .before .before .before .before .args) .stream .now) ((c .before .before .before .before .before .before .before .n) .given .0 .1 .0) (sym ((c .before .before .before .before .before .get-next) .ensures) ∙ (c .before .before .before .t) .given .1))) }, (c .before .before .before .before .before .before .before .before .before .before .before .before .before .before .before .before .pre) .1 .1 ∙ ap (lineAt ((c .before .before .before .before .before .before .before .before .before .before .before .before .before .before .before .before .args) .stream .now)) p, paid (took-name ((c .before .before .before .before .before .before .before .before .before .before .before .before .before .before .before .before .args) .stream .now) ((c .before .before .before .before .before .before .before .before .before .before .before .d) .given .0 .1 .0) ((sym ((c .before .before .before .before .before .before .before .before .before .expect-name) .ensures)) ∙ (c .before .before .before .before .before .before .before .n) .given .1)) ∙ ap (λ (z : ℕ). payload ((c .before .before .before .before .before .before .before .before .before .before .before .before .before .before .before .before .args) .stream .now) (z - 1)) (sym (get-place ((c .before .before .before .before .before .before .before .before .before .before .before .before .before .before .before .before .args) .stream .now) ((c .before .before .before .before .before .before .before .n) .given .0 .1 .0) (sym ((c .before .before .before .before .before .get-next) .ensures) ∙ (c .before .before .before .t) .given .1)))))
 
 pub fors-generic-requires : (t : ℕ) → fors-lts.Need-generic-requires (
   expect-next-reads.Asked,
@@ -237,9 +235,9 @@ pub fors-generic-requires : (t : ℕ) → fors-lts.Need-generic-requires (
 fors-generic-requires t c κs =
     let f1 = word-fine ((c .before .before .before .before .before .before .before .before .before .before .before .before .before .before .before .before .args) .stream .now) (ranks ((c .before .before .before .before .before .before .before .before .before .before .before .before .before .before .before .before .args) .ranking)) 0 (readers ((c .before .before .before .before .before .before .before .before .before .before .before .before .before .before .before .before .args) .stream .now) (ranks ((c .before .before .before .before .before .before .before .before .before .before .before .before .before .before .before .before .args) .ranking)) ((c .before .before .before .before .before .before .before .before .before .before .before .before .before .before .before .before .args) .g)) (hold 0 0 none) again ((c .before .before .before .before .before .before .before .before .before .before .before .before .before .before .before .before .args) .c) ((c .before .before .before .before .before .before .before .before .before .before .before .before .before .before .before .before .args) .nodes .now) ((c .before .before .before .before .before .before .before .before .before .before .before .before .before .before .before .before .args) .used) 0 (((c .before .before .before .before .before .before .before .before .before .before .before .before .before .before .before .before .pre) .1 .0) .formed) (omega (arith, ((c .before .before .before .before .before .before .before .before .before .before .before .before .before .before .before .before .pre) .1 .0) .room)) 6 refl refl ((sym ((c .before .before .before .before .before .before .before .before .before .before .before .before .before .expect-next) .ensures)) ∙ (c .before .before .before .before .before .before .before .before .before .before .before .d) .given .1) in
     let f2 = name-fine ((c .before .before .before .before .before .before .before .before .before .before .before .before .before .before .before .before .args) .stream .now) (ranks ((c .before .before .before .before .before .before .before .before .before .before .before .before .before .before .before .before .args) .ranking)) 0 (readers ((c .before .before .before .before .before .before .before .before .before .before .before .before .before .before .before .before .args) .stream .now) (ranks ((c .before .before .before .before .before .before .before .before .before .before .before .before .before .before .before .before .args) .ranking)) ((c .before .before .before .before .before .before .before .before .before .before .before .before .before .before .before .before .args) .g)) (hold 0 0 none) again ((c .before .before .before .before .before .before .before .before .before .before .before .d) .given .0 .1 .0) ((c .before .before .before .before .before .before .before .before .before .before .before .before .before .before .before .before .args) .nodes .now) ((c .before .before .before .before .before .before .before .before .before .before .before .before .before .before .before .before .args) .used) 0 (((c .before .before .before .before .before .before .before .before .before .before .before .before .before .before .before .before .pre) .1 .0) .formed) (omega (arith, ((c .before .before .before .before .before .before .before .before .before .before .before .before .before .before .before .before .pre) .1 .0) .room, f1 .later)) ((sym ((c .before .before .before .before .before .before .before .before .before .expect-name) .ensures)) ∙ (c .before .before .before .before .before .before .before .n) .given .1) in
-    let p : ((c .before .before .before .before .before .before .before .before .before .before .before .before .before .before .before .before .args) .c) .place ≡ ((c .before .before .before .t) .given .0 .1 .0) .place - 2 = omega (arith, (took-kind ((c .before .before .before .before .before .before .before .before .before .before .before .before .before .before .before .before .args) .stream .now) ((c .before .before .before .before .before .before .before .before .before .before .before .before .before .before .before .before .args) .c) 6 ((sym ((c .before .before .before .before .before .before .before .before .before .before .before .before .before .expect-next) .ensures)) ∙ (c .before .before .before .before .before .before .before .before .before .before .before .d) .given .1) .0) .place, (took-name ((c .before .before .before .before .before .before .before .before .before .before .before .before .before .before .before .before .args) .stream .now) ((c .before .before .before .before .before .before .before .before .before .before .before .d) .given .0 .1 .0) ((sym ((c .before .before .before .before .before .before .before .before .before .expect-name) .ensures)) ∙ (c .before .before .before .before .before .before .before .n) .given .1)) .place, (get-place ((c .before .before .before .before .before .before .before .before .before .before .before .before .before .before .before .before .args) .stream .now) ((c .before .before .before .before .before .before .before .n) .given .0 .1 .0) (sym ((c .before .before .before .before .before .get-next) .ensures) ∙ (c .before .before .before .t) .given .1))) in
+    let p : ((c .before .before .before .before .before .before .before .before .before .before .before .before .before .before .before .before .args) .c) .place ≡ ((c .before .before .before .t) .given .0 .1 .0) .place - 2 = omega (arith, (took-kind ((c .before .before .before .before .before .before .before .before .before .before .before .before .before .before .before .before .args) .stream .now) ((c .before .before .before .before .before .before .before .before .before .before .before .before .before .before .before .before .args) .c) 6 ((sym ((c .before .before .before .before .before .before .before .before .before .before .before .before .before .expect-next) .ensures)) ∙ (c .before .before .before .before .before .before .before .before .before .before .before .d) .given .1)) .place, (took-name ((c .before .before .before .before .before .before .before .before .before .before .before .before .before .before .before .before .args) .stream .now) ((c .before .before .before .before .before .before .before .before .before .before .before .d) .given .0 .1 .0) ((sym ((c .before .before .before .before .before .before .before .before .before .expect-name) .ensures)) ∙ (c .before .before .before .before .before .before .before .n) .given .1)) .place, (get-place ((c .before .before .before .before .before .before .before .before .before .before .before .before .before .before .before .before .args) .stream .now) ((c .before .before .before .before .before .before .before .n) .given .0 .1 .0) (sym ((c .before .before .before .before .before .get-next) .ensures) ∙ (c .before .before .before .t) .given .1))) in
     let q : ((c .before .before .before .before .before .before .before .before .before .before .before .d) .given .0 .1 .0) .place ≡ ((c .before .before .before .t) .given .0 .1 .0) .place - 1 = omega (arith, (took-name ((c .before .before .before .before .before .before .before .before .before .before .before .before .before .before .before .before .args) .stream .now) ((c .before .before .before .before .before .before .before .before .before .before .before .d) .given .0 .1 .0) ((sym ((c .before .before .before .before .before .before .before .before .before .expect-name) .ensures)) ∙ (c .before .before .before .before .before .before .before .n) .given .1)) .place, (get-place ((c .before .before .before .before .before .before .before .before .before .before .before .before .before .before .before .before .args) .stream .now) ((c .before .before .before .before .before .before .before .n) .given .0 .1 .0) (sym ((c .before .before .before .before .before .get-next) .ensures) ∙ (c .before .before .before .t) .given .1))) in
-    (omega (arith, (c .before .before .before .before .before .before .before .before .before .before .before .before .before .before .before .before .pre) .0), (record { formed = ((c .before .before .before .before .before .before .before .before .before .before .before .before .before .before .before .before .pre) .1 .0) .formed; at = omega (arith, f2 .at, (get-place ((c .before .before .before .before .before .before .before .before .before .before .before .before .before .before .before .before .args) .stream .now) ((c .before .before .before .before .before .before .before .n) .given .0 .1 .0) (sym ((c .before .before .before .before .before .get-next) .ensures) ∙ (c .before .before .before .t) .given .1))); room = omega (arith, ((c .before .before .before .before .before .before .before .before .before .before .before .before .before .before .before .before .pre) .1 .0) .room, (took-kind ((c .before .before .before .before .before .before .before .before .before .before .before .before .before .before .before .before .args) .stream .now) ((c .before .before .before .before .before .before .before .before .before .before .before .before .before .before .before .before .args) .c) 6 ((sym ((c .before .before .before .before .before .before .before .before .before .before .before .before .before .expect-next) .ensures)) ∙ (c .before .before .before .before .before .before .before .before .before .before .before .d) .given .1) .0) .place, (took-name ((c .before .before .before .before .before .before .before .before .before .before .before .before .before .before .before .before .args) .stream .now) ((c .before .before .before .before .before .before .before .before .before .before .before .d) .given .0 .1 .0) ((sym ((c .before .before .before .before .before .before .before .before .before .expect-name) .ensures)) ∙ (c .before .before .before .before .before .before .before .n) .given .1)) .place, (get-place ((c .before .before .before .before .before .before .before .before .before .before .before .before .before .before .before .before .args) .stream .now) ((c .before .before .before .before .before .before .before .n) .given .0 .1 .0) (sym ((c .before .before .before .before .before .get-next) .ensures) ∙ (c .before .before .before .t) .given .1))) }, (c .before .before .before .before .before .before .before .before .before .before .before .before .before .before .before .before .pre) .1 .1 ∙ ap (lineAt ((c .before .before .before .before .before .before .before .before .before .before .before .before .before .before .before .before .args) .stream .now)) p, ap (λ (z : Token). z .payload) ((took-name ((c .before .before .before .before .before .before .before .before .before .before .before .before .before .before .before .before .args) .stream .now) ((c .before .before .before .before .before .before .before .before .before .before .before .d) .given .0 .1 .0) ((sym ((c .before .before .before .before .before .before .before .before .before .expect-name) .ensures)) ∙ (c .before .before .before .before .before .before .before .n) .given .1)) .token) ∙ ap (payload ((c .before .before .before .before .before .before .before .before .before .before .before .before .before .before .before .before .args) .stream .now)) q))
+    (omega (arith, (c .before .before .before .before .before .before .before .before .before .before .before .before .before .before .before .before .pre) .0), (record { formed = ((c .before .before .before .before .before .before .before .before .before .before .before .before .before .before .before .before .pre) .1 .0) .formed; at = omega (arith, f2 .at, (get-place ((c .before .before .before .before .before .before .before .before .before .before .before .before .before .before .before .before .args) .stream .now) ((c .before .before .before .before .before .before .before .n) .given .0 .1 .0) (sym ((c .before .before .before .before .before .get-next) .ensures) ∙ (c .before .before .before .t) .given .1))); room = omega (arith, ((c .before .before .before .before .before .before .before .before .before .before .before .before .before .before .before .before .pre) .1 .0) .room, (took-kind ((c .before .before .before .before .before .before .before .before .before .before .before .before .before .before .before .before .args) .stream .now) ((c .before .before .before .before .before .before .before .before .before .before .before .before .before .before .before .before .args) .c) 6 ((sym ((c .before .before .before .before .before .before .before .before .before .before .before .before .before .expect-next) .ensures)) ∙ (c .before .before .before .before .before .before .before .before .before .before .before .d) .given .1)) .place, (took-name ((c .before .before .before .before .before .before .before .before .before .before .before .before .before .before .before .before .args) .stream .now) ((c .before .before .before .before .before .before .before .before .before .before .before .d) .given .0 .1 .0) ((sym ((c .before .before .before .before .before .before .before .before .before .expect-name) .ensures)) ∙ (c .before .before .before .before .before .before .before .n) .given .1)) .place, (get-place ((c .before .before .before .before .before .before .before .before .before .before .before .before .before .before .before .before .args) .stream .now) ((c .before .before .before .before .before .before .before .n) .given .0 .1 .0) (sym ((c .before .before .before .before .before .get-next) .ensures) ∙ (c .before .before .before .t) .given .1))) }, (c .before .before .before .before .before .before .before .before .before .before .before .before .before .before .before .before .pre) .1 .1 ∙ ap (lineAt ((c .before .before .before .before .before .before .before .before .before .before .before .before .before .before .before .before .args) .stream .now)) p, paid (took-name ((c .before .before .before .before .before .before .before .before .before .before .before .before .before .before .before .before .args) .stream .now) ((c .before .before .before .before .before .before .before .before .before .before .before .d) .given .0 .1 .0) ((sym ((c .before .before .before .before .before .before .before .before .before .expect-name) .ensures)) ∙ (c .before .before .before .before .before .before .before .n) .given .1)) ∙ ap (λ (z : ℕ). payload ((c .before .before .before .before .before .before .before .before .before .before .before .before .before .before .before .before .args) .stream .now) (z - 1)) (sym (get-place ((c .before .before .before .before .before .before .before .before .before .before .before .before .before .before .before .before .args) .stream .now) ((c .before .before .before .before .before .before .before .n) .given .0 .1 .0) (sym ((c .before .before .before .before .before .get-next) .ensures) ∙ (c .before .before .before .t) .given .1)))))
 
 pub fors-generic-requires-2 : (t : ℕ) → fors-lts.Need-generic-requires-2 (
   expect-next-reads.Asked,
@@ -258,9 +256,9 @@ pub fors-generic-requires-2 : (t : ℕ) → fors-lts.Need-generic-requires-2 (
 fors-generic-requires-2 t c κs =
     let f1 = word-fine ((c .before .before .before .before .before .before .before .before .before .before .before .before .before .before .before .before .args) .stream .now) (ranks ((c .before .before .before .before .before .before .before .before .before .before .before .before .before .before .before .before .args) .ranking)) 0 (readers ((c .before .before .before .before .before .before .before .before .before .before .before .before .before .before .before .before .args) .stream .now) (ranks ((c .before .before .before .before .before .before .before .before .before .before .before .before .before .before .before .before .args) .ranking)) ((c .before .before .before .before .before .before .before .before .before .before .before .before .before .before .before .before .args) .g)) (hold 0 0 none) again ((c .before .before .before .before .before .before .before .before .before .before .before .before .before .before .before .before .args) .c) ((c .before .before .before .before .before .before .before .before .before .before .before .before .before .before .before .before .args) .nodes .now) ((c .before .before .before .before .before .before .before .before .before .before .before .before .before .before .before .before .args) .used) 0 (((c .before .before .before .before .before .before .before .before .before .before .before .before .before .before .before .before .pre) .1 .0) .formed) (omega (arith, ((c .before .before .before .before .before .before .before .before .before .before .before .before .before .before .before .before .pre) .1 .0) .room)) 6 refl refl ((sym ((c .before .before .before .before .before .before .before .before .before .before .before .before .before .expect-next) .ensures)) ∙ (c .before .before .before .before .before .before .before .before .before .before .before .d) .given .1) in
     let f2 = name-fine ((c .before .before .before .before .before .before .before .before .before .before .before .before .before .before .before .before .args) .stream .now) (ranks ((c .before .before .before .before .before .before .before .before .before .before .before .before .before .before .before .before .args) .ranking)) 0 (readers ((c .before .before .before .before .before .before .before .before .before .before .before .before .before .before .before .before .args) .stream .now) (ranks ((c .before .before .before .before .before .before .before .before .before .before .before .before .before .before .before .before .args) .ranking)) ((c .before .before .before .before .before .before .before .before .before .before .before .before .before .before .before .before .args) .g)) (hold 0 0 none) again ((c .before .before .before .before .before .before .before .before .before .before .before .d) .given .0 .1 .0) ((c .before .before .before .before .before .before .before .before .before .before .before .before .before .before .before .before .args) .nodes .now) ((c .before .before .before .before .before .before .before .before .before .before .before .before .before .before .before .before .args) .used) 0 (((c .before .before .before .before .before .before .before .before .before .before .before .before .before .before .before .before .pre) .1 .0) .formed) (omega (arith, ((c .before .before .before .before .before .before .before .before .before .before .before .before .before .before .before .before .pre) .1 .0) .room, f1 .later)) ((sym ((c .before .before .before .before .before .before .before .before .before .expect-name) .ensures)) ∙ (c .before .before .before .before .before .before .before .n) .given .1) in
-    let p : ((c .before .before .before .before .before .before .before .before .before .before .before .before .before .before .before .before .args) .c) .place ≡ ((c .before .before .before .t) .given .0 .1 .0) .place - 2 = omega (arith, (took-kind ((c .before .before .before .before .before .before .before .before .before .before .before .before .before .before .before .before .args) .stream .now) ((c .before .before .before .before .before .before .before .before .before .before .before .before .before .before .before .before .args) .c) 6 ((sym ((c .before .before .before .before .before .before .before .before .before .before .before .before .before .expect-next) .ensures)) ∙ (c .before .before .before .before .before .before .before .before .before .before .before .d) .given .1) .0) .place, (took-name ((c .before .before .before .before .before .before .before .before .before .before .before .before .before .before .before .before .args) .stream .now) ((c .before .before .before .before .before .before .before .before .before .before .before .d) .given .0 .1 .0) ((sym ((c .before .before .before .before .before .before .before .before .before .expect-name) .ensures)) ∙ (c .before .before .before .before .before .before .before .n) .given .1)) .place, (get-place ((c .before .before .before .before .before .before .before .before .before .before .before .before .before .before .before .before .args) .stream .now) ((c .before .before .before .before .before .before .before .n) .given .0 .1 .0) (sym ((c .before .before .before .before .before .get-next) .ensures) ∙ (c .before .before .before .t) .given .1))) in
+    let p : ((c .before .before .before .before .before .before .before .before .before .before .before .before .before .before .before .before .args) .c) .place ≡ ((c .before .before .before .t) .given .0 .1 .0) .place - 2 = omega (arith, (took-kind ((c .before .before .before .before .before .before .before .before .before .before .before .before .before .before .before .before .args) .stream .now) ((c .before .before .before .before .before .before .before .before .before .before .before .before .before .before .before .before .args) .c) 6 ((sym ((c .before .before .before .before .before .before .before .before .before .before .before .before .before .expect-next) .ensures)) ∙ (c .before .before .before .before .before .before .before .before .before .before .before .d) .given .1)) .place, (took-name ((c .before .before .before .before .before .before .before .before .before .before .before .before .before .before .before .before .args) .stream .now) ((c .before .before .before .before .before .before .before .before .before .before .before .d) .given .0 .1 .0) ((sym ((c .before .before .before .before .before .before .before .before .before .expect-name) .ensures)) ∙ (c .before .before .before .before .before .before .before .n) .given .1)) .place, (get-place ((c .before .before .before .before .before .before .before .before .before .before .before .before .before .before .before .before .args) .stream .now) ((c .before .before .before .before .before .before .before .n) .given .0 .1 .0) (sym ((c .before .before .before .before .before .get-next) .ensures) ∙ (c .before .before .before .t) .given .1))) in
     let q : ((c .before .before .before .before .before .before .before .before .before .before .before .d) .given .0 .1 .0) .place ≡ ((c .before .before .before .t) .given .0 .1 .0) .place - 1 = omega (arith, (took-name ((c .before .before .before .before .before .before .before .before .before .before .before .before .before .before .before .before .args) .stream .now) ((c .before .before .before .before .before .before .before .before .before .before .before .d) .given .0 .1 .0) ((sym ((c .before .before .before .before .before .before .before .before .before .expect-name) .ensures)) ∙ (c .before .before .before .before .before .before .before .n) .given .1)) .place, (get-place ((c .before .before .before .before .before .before .before .before .before .before .before .before .before .before .before .before .args) .stream .now) ((c .before .before .before .before .before .before .before .n) .given .0 .1 .0) (sym ((c .before .before .before .before .before .get-next) .ensures) ∙ (c .before .before .before .t) .given .1))) in
-    (omega (arith, (c .before .before .before .before .before .before .before .before .before .before .before .before .before .before .before .before .pre) .0), (record { formed = ((c .before .before .before .before .before .before .before .before .before .before .before .before .before .before .before .before .pre) .1 .0) .formed; at = omega (arith, f2 .at, (get-place ((c .before .before .before .before .before .before .before .before .before .before .before .before .before .before .before .before .args) .stream .now) ((c .before .before .before .before .before .before .before .n) .given .0 .1 .0) (sym ((c .before .before .before .before .before .get-next) .ensures) ∙ (c .before .before .before .t) .given .1))); room = omega (arith, ((c .before .before .before .before .before .before .before .before .before .before .before .before .before .before .before .before .pre) .1 .0) .room, (took-kind ((c .before .before .before .before .before .before .before .before .before .before .before .before .before .before .before .before .args) .stream .now) ((c .before .before .before .before .before .before .before .before .before .before .before .before .before .before .before .before .args) .c) 6 ((sym ((c .before .before .before .before .before .before .before .before .before .before .before .before .before .expect-next) .ensures)) ∙ (c .before .before .before .before .before .before .before .before .before .before .before .d) .given .1) .0) .place, (took-name ((c .before .before .before .before .before .before .before .before .before .before .before .before .before .before .before .before .args) .stream .now) ((c .before .before .before .before .before .before .before .before .before .before .before .d) .given .0 .1 .0) ((sym ((c .before .before .before .before .before .before .before .before .before .expect-name) .ensures)) ∙ (c .before .before .before .before .before .before .before .n) .given .1)) .place, (get-place ((c .before .before .before .before .before .before .before .before .before .before .before .before .before .before .before .before .args) .stream .now) ((c .before .before .before .before .before .before .before .n) .given .0 .1 .0) (sym ((c .before .before .before .before .before .get-next) .ensures) ∙ (c .before .before .before .t) .given .1))) }, (c .before .before .before .before .before .before .before .before .before .before .before .before .before .before .before .before .pre) .1 .1 ∙ ap (lineAt ((c .before .before .before .before .before .before .before .before .before .before .before .before .before .before .before .before .args) .stream .now)) p, ap (λ (z : Token). z .payload) ((took-name ((c .before .before .before .before .before .before .before .before .before .before .before .before .before .before .before .before .args) .stream .now) ((c .before .before .before .before .before .before .before .before .before .before .before .d) .given .0 .1 .0) ((sym ((c .before .before .before .before .before .before .before .before .before .expect-name) .ensures)) ∙ (c .before .before .before .before .before .before .before .n) .given .1)) .token) ∙ ap (payload ((c .before .before .before .before .before .before .before .before .before .before .before .before .before .before .before .before .args) .stream .now)) q))
+    (omega (arith, (c .before .before .before .before .before .before .before .before .before .before .before .before .before .before .before .before .pre) .0), (record { formed = ((c .before .before .before .before .before .before .before .before .before .before .before .before .before .before .before .before .pre) .1 .0) .formed; at = omega (arith, f2 .at, (get-place ((c .before .before .before .before .before .before .before .before .before .before .before .before .before .before .before .before .args) .stream .now) ((c .before .before .before .before .before .before .before .n) .given .0 .1 .0) (sym ((c .before .before .before .before .before .get-next) .ensures) ∙ (c .before .before .before .t) .given .1))); room = omega (arith, ((c .before .before .before .before .before .before .before .before .before .before .before .before .before .before .before .before .pre) .1 .0) .room, (took-kind ((c .before .before .before .before .before .before .before .before .before .before .before .before .before .before .before .before .args) .stream .now) ((c .before .before .before .before .before .before .before .before .before .before .before .before .before .before .before .before .args) .c) 6 ((sym ((c .before .before .before .before .before .before .before .before .before .before .before .before .before .expect-next) .ensures)) ∙ (c .before .before .before .before .before .before .before .before .before .before .before .d) .given .1)) .place, (took-name ((c .before .before .before .before .before .before .before .before .before .before .before .before .before .before .before .before .args) .stream .now) ((c .before .before .before .before .before .before .before .before .before .before .before .d) .given .0 .1 .0) ((sym ((c .before .before .before .before .before .before .before .before .before .expect-name) .ensures)) ∙ (c .before .before .before .before .before .before .before .n) .given .1)) .place, (get-place ((c .before .before .before .before .before .before .before .before .before .before .before .before .before .before .before .before .args) .stream .now) ((c .before .before .before .before .before .before .before .n) .given .0 .1 .0) (sym ((c .before .before .before .before .before .get-next) .ensures) ∙ (c .before .before .before .t) .given .1))) }, (c .before .before .before .before .before .before .before .before .before .before .before .before .before .before .before .before .pre) .1 .1 ∙ ap (lineAt ((c .before .before .before .before .before .before .before .before .before .before .before .before .before .before .before .before .args) .stream .now)) p, paid (took-name ((c .before .before .before .before .before .before .before .before .before .before .before .before .before .before .before .before .args) .stream .now) ((c .before .before .before .before .before .before .before .before .before .before .before .d) .given .0 .1 .0) ((sym ((c .before .before .before .before .before .before .before .before .before .expect-name) .ensures)) ∙ (c .before .before .before .before .before .before .before .n) .given .1)) ∙ ap (λ (z : ℕ). payload ((c .before .before .before .before .before .before .before .before .before .before .before .before .before .before .before .before .args) .stream .now) (z - 1)) (sym (get-place ((c .before .before .before .before .before .before .before .before .before .before .before .before .before .before .before .before .args) .stream .now) ((c .before .before .before .before .before .before .before .n) .given .0 .1 .0) (sym ((c .before .before .before .before .before .get-next) .ensures) ∙ (c .before .before .before .t) .given .1)))))
 
 pub fors-refuse-requires : (t : ℕ) → fors-lts.Need-refuse-requires (
   expect-next-reads.Asked,
@@ -317,7 +315,7 @@ fors-returns-3 t c =
     let f2 = name-fine ((c .before .before .before .before .before .before .before .before .before .before .before .before .before .before .args) .stream .now) (ranks ((c .before .before .before .before .before .before .before .before .before .before .before .before .before .before .args) .ranking)) 0 (readers ((c .before .before .before .before .before .before .before .before .before .before .before .before .before .before .args) .stream .now) (ranks ((c .before .before .before .before .before .before .before .before .before .before .before .before .before .before .args) .ranking)) ((c .before .before .before .before .before .before .before .before .before .before .before .before .before .before .args) .g)) (hold 0 0 none) again ((c .before .before .before .before .before .before .before .before .before .d) .given .0 .1 .0) ((c .before .before .before .before .before .before .before .before .before .before .before .before .before .before .args) .nodes .now) ((c .before .before .before .before .before .before .before .before .before .before .before .before .before .before .args) .used) 0 (((c .before .before .before .before .before .before .before .before .before .before .before .before .before .before .pre) .1 .0) .formed) (omega (arith, ((c .before .before .before .before .before .before .before .before .before .before .before .before .before .before .pre) .1 .0) .room, f1 .later)) ((sym ((c .before .before .before .before .before .before .before .expect-name) .ensures)) ∙ (c .before .before .before .before .before .n) .given .1) in
     let f3 = both (read ((c .before .before .before .before .before .before .before .before .before .before .before .before .before .before .args) .stream .now) (ranks ((c .before .before .before .before .before .before .before .before .before .before .before .before .before .before .args) .ranking)) 0 (readers ((c .before .before .before .before .before .before .before .before .before .before .before .before .before .before .args) .stream .now) (ranks ((c .before .before .before .before .before .before .before .before .before .before .before .before .before .before .args) .ranking)) ((c .before .before .before .before .before .before .before .before .before .before .before .before .before .before .args) .g)) (hold 0 0 none) named again) f1 f2 (omega arith) in
     let l = leads-is _ f3 in
-    l ∙ next-fail ((c .before .before .before .before .before .before .before .before .before .before .before .before .before .before .args) .stream .now) (ranks ((c .before .before .before .before .before .before .before .before .before .before .before .before .before .before .args) .ranking)) 0 (readers ((c .before .before .before .before .before .before .before .before .before .before .before .before .before .before .args) .stream .now) (ranks ((c .before .before .before .before .before .before .before .before .before .before .before .before .before .before .args) .ranking)) ((c .before .before .before .before .before .before .before .before .before .before .before .before .before .before .args) .g)) (hold (((c .before .before .before .before .before .before .before .before .before .before .before .before .before .before .args) .c) .place) (((c .before .before .before .before .before .n) .given .0 .1 .0) .place) (f3 .trees)) (loop ((c .before .before .before .before .before .before .before .before .before .before .before .before .before .before .args) .stream .now) (length ((c .before .before .before .before .before .before .before .before .before .before .before .before .before .before .args) .stream .now)) (read ((c .before .before .before .before .before .before .before .before .before .before .before .before .before .before .args) .stream .now) (ranks ((c .before .before .before .before .before .before .before .before .before .before .before .before .before .before .args) .ranking)) 0 (readers ((c .before .before .before .before .before .before .before .before .before .before .before .before .before .before .args) .stream .now) (ranks ((c .before .before .before .before .before .before .before .before .before .before .before .before .before .before .args) .ranking)) ((c .before .before .before .before .before .before .before .before .before .before .before .before .before .before .args) .g)) (hold (((c .before .before .before .before .before .before .before .before .before .before .before .before .before .before .args) .c) .place) (((c .before .before .before .before .before .n) .given .0 .1 .0) .place) (f3 .trees)) (on next (37 ∷ []) (node 6 back opening P.numeric) (on next (48 ∷ 10 ∷ []) (node 7 back opening P.generic) (refuse 64))))) ((c .before .before .before .before .before .n) .given .0 .1 .0) (37 ∷ []) (node 6 back opening P.numeric) (on next (48 ∷ 10 ∷ []) (node 7 back opening P.generic) (refuse 64)) (sym ((c .before .before .before .get-next) .ensures) ∙ (c .before .e3) .given .1)
+    l ∙ by-none ((c .before .before .before .before .before .before .before .before .before .before .before .before .before .before .args) .stream .now) (ranks ((c .before .before .before .before .before .before .before .before .before .before .before .before .before .before .args) .ranking)) 0 (readers ((c .before .before .before .before .before .before .before .before .before .before .before .before .before .before .args) .stream .now) (ranks ((c .before .before .before .before .before .before .before .before .before .before .before .before .before .before .args) .ranking)) ((c .before .before .before .before .before .before .before .before .before .before .before .before .before .before .args) .g)) (hold (((c .before .before .before .before .before .before .before .before .before .before .before .before .before .before .args) .c) .place) (((c .before .before .before .before .before .n) .given .0 .1 .0) .place) (f3 .trees)) (loop ((c .before .before .before .before .before .before .before .before .before .before .before .before .before .before .args) .stream .now) (length ((c .before .before .before .before .before .before .before .before .before .before .before .before .before .before .args) .stream .now)) (read ((c .before .before .before .before .before .before .before .before .before .before .before .before .before .before .args) .stream .now) (ranks ((c .before .before .before .before .before .before .before .before .before .before .before .before .before .before .args) .ranking)) 0 (readers ((c .before .before .before .before .before .before .before .before .before .before .before .before .before .before .args) .stream .now) (ranks ((c .before .before .before .before .before .before .before .before .before .before .before .before .before .before .args) .ranking)) ((c .before .before .before .before .before .before .before .before .before .before .before .before .before .before .args) .g)) (hold (((c .before .before .before .before .before .before .before .before .before .before .before .before .before .before .args) .c) .place) (((c .before .before .before .before .before .n) .given .0 .1 .0) .place) (f3 .trees)) (37 ⇒ (node 6 back opening P.numeric) ∣ (on next (48 ∷ 10 ∷ []) (node 7 back opening P.generic) (refuse 64))))) ((c .before .before .before .before .before .n) .given .0 .1 .0) (37, (node 6 back opening P.numeric)) [] (on next (48 ∷ 10 ∷ []) (node 7 back opening P.generic) (refuse 64)) (sym ((c .before .before .before .get-next) .ensures) ∙ (c .before .e3) .given .1)
 
 pub fors-same-length : (t : ℕ) → fors-lts.Need-same-length (
   expect-next-reads.Asked,
@@ -355,11 +353,11 @@ fors-returns-4 t c =
     let f2 = name-fine ((c .before .before .before .before .before .before .before .before .before .before .before .before .before .before .before .before .before .before .before .args) .stream .now) (ranks ((c .before .before .before .before .before .before .before .before .before .before .before .before .before .before .before .before .before .before .before .args) .ranking)) 0 (readers ((c .before .before .before .before .before .before .before .before .before .before .before .before .before .before .before .before .before .before .before .args) .stream .now) (ranks ((c .before .before .before .before .before .before .before .before .before .before .before .before .before .before .before .before .before .before .before .args) .ranking)) ((c .before .before .before .before .before .before .before .before .before .before .before .before .before .before .before .before .before .before .before .args) .g)) (hold 0 0 none) again ((c .before .before .before .before .before .before .before .before .before .before .before .before .before .before .d) .given .0 .1 .0) ((c .before .before .before .before .before .before .before .before .before .before .before .before .before .before .before .before .before .before .before .args) .nodes .now) ((c .before .before .before .before .before .before .before .before .before .before .before .before .before .before .before .before .before .before .before .args) .used) 0 (((c .before .before .before .before .before .before .before .before .before .before .before .before .before .before .before .before .before .before .before .pre) .1 .0) .formed) (omega (arith, ((c .before .before .before .before .before .before .before .before .before .before .before .before .before .before .before .before .before .before .before .pre) .1 .0) .room, f1 .later)) ((sym ((c .before .before .before .before .before .before .before .before .before .before .before .before .expect-name) .ensures)) ∙ (c .before .before .before .before .before .before .before .before .before .before .n) .given .1) in
     let f3 = both (read ((c .before .before .before .before .before .before .before .before .before .before .before .before .before .before .before .before .before .before .before .args) .stream .now) (ranks ((c .before .before .before .before .before .before .before .before .before .before .before .before .before .before .before .before .before .before .before .args) .ranking)) 0 (readers ((c .before .before .before .before .before .before .before .before .before .before .before .before .before .before .before .before .before .before .before .args) .stream .now) (ranks ((c .before .before .before .before .before .before .before .before .before .before .before .before .before .before .before .before .before .before .before .args) .ranking)) ((c .before .before .before .before .before .before .before .before .before .before .before .before .before .before .before .before .before .before .before .args) .g)) (hold 0 0 none) named again) f1 f2 (omega arith) in
     let l = leads-is _ f3 in
-    let p : ((c .before .before .before .before .before .before .before .before .before .before .before .before .before .before .before .before .before .before .before .args) .c) .place ≡ ((c .before .before .before .before .before .before .t) .given .0 .1 .0) .place - 2 = omega (arith, (took-kind ((c .before .before .before .before .before .before .before .before .before .before .before .before .before .before .before .before .before .before .before .args) .stream .now) ((c .before .before .before .before .before .before .before .before .before .before .before .before .before .before .before .before .before .before .before .args) .c) 6 ((sym ((c .before .before .before .before .before .before .before .before .before .before .before .before .before .before .before .before .expect-next) .ensures)) ∙ (c .before .before .before .before .before .before .before .before .before .before .before .before .before .before .d) .given .1) .0) .place, (took-name ((c .before .before .before .before .before .before .before .before .before .before .before .before .before .before .before .before .before .before .before .args) .stream .now) ((c .before .before .before .before .before .before .before .before .before .before .before .before .before .before .d) .given .0 .1 .0) ((sym ((c .before .before .before .before .before .before .before .before .before .before .before .before .expect-name) .ensures)) ∙ (c .before .before .before .before .before .before .before .before .before .before .n) .given .1)) .place, (get-place ((c .before .before .before .before .before .before .before .before .before .before .before .before .before .before .before .before .before .before .before .args) .stream .now) ((c .before .before .before .before .before .before .before .before .before .before .n) .given .0 .1 .0) (sym ((c .before .before .before .before .before .before .before .before .get-next) .ensures) ∙ (c .before .before .before .before .before .before .t) .given .1))) in
-    let e1 = next-in ((c .before .before .before .before .before .before .before .before .before .before .before .before .before .before .before .before .before .before .before .args) .stream .now) (ranks ((c .before .before .before .before .before .before .before .before .before .before .before .before .before .before .before .before .before .before .before .args) .ranking)) 0 (readers ((c .before .before .before .before .before .before .before .before .before .before .before .before .before .before .before .before .before .before .before .args) .stream .now) (ranks ((c .before .before .before .before .before .before .before .before .before .before .before .before .before .before .before .before .before .before .before .args) .ranking)) ((c .before .before .before .before .before .before .before .before .before .before .before .before .before .before .before .before .before .before .before .args) .g)) (hold (((c .before .before .before .before .before .before .before .before .before .before .before .before .before .before .before .before .before .before .before .args) .c) .place) (((c .before .before .before .before .before .before .before .before .before .before .n) .given .0 .1 .0) .place) (f3 .trees)) (loop ((c .before .before .before .before .before .before .before .before .before .before .before .before .before .before .before .before .before .before .before .args) .stream .now) (length ((c .before .before .before .before .before .before .before .before .before .before .before .before .before .before .before .before .before .before .before .args) .stream .now)) (read ((c .before .before .before .before .before .before .before .before .before .before .before .before .before .before .before .before .before .before .before .args) .stream .now) (ranks ((c .before .before .before .before .before .before .before .before .before .before .before .before .before .before .before .before .before .before .before .args) .ranking)) 0 (readers ((c .before .before .before .before .before .before .before .before .before .before .before .before .before .before .before .before .before .before .before .args) .stream .now) (ranks ((c .before .before .before .before .before .before .before .before .before .before .before .before .before .before .before .before .before .before .before .args) .ranking)) ((c .before .before .before .before .before .before .before .before .before .before .before .before .before .before .before .before .before .before .before .args) .g)) (hold (((c .before .before .before .before .before .before .before .before .before .before .before .before .before .before .before .before .before .before .before .args) .c) .place) (((c .before .before .before .before .before .before .before .before .before .before .n) .given .0 .1 .0) .place) (f3 .trees)) (on next (37 ∷ []) (node 6 back opening P.numeric) (on next (48 ∷ 10 ∷ []) (node 7 back opening P.generic) (refuse 64))))) ((c .before .before .before .before .before .before .before .before .before .before .n) .given .0 .1 .0) (37 ∷ []) (node 6 back opening P.numeric) (on next (48 ∷ 10 ∷ []) (node 7 back opening P.generic) (refuse 64)) (sym ((c .before .before .before .before .before .before .before .before .get-next) .ensures) ∙ (c .before .before .before .before .before .before .t) .given .1) (one ((c .before .before .before .before .match4) .keys1)) in
-    let e2 = ap (wrap ((c .before .before .before .before .before .before .before .before .before .before .before .before .before .before .before .before .before .before .before .args) .stream .now) 6 opening (((c .before .before .before .before .before .before .before .before .before .before .before .before .before .before .before .before .before .before .before .args) .c) .place)) (settled ((c .before .before .before .before .before .before .before .before .before .before .before .before .before .before .before .before .before .before .before .args) .stream .now) ((c .before .before .before .before .before .before .before .before .before .before .before .before .before .before .before .before .before .before .before .args) .ranking) 0 ((c .before .before .before .before .before .before .before .before .before .before .before .before .before .before .before .before .before .before .before .args) .g) (hold (((c .before .before .before .before .before .before .before .before .before .before .before .before .before .before .before .before .before .before .before .args) .c) .place) (((c .before .before .before .before .before .before .before .before .before .before .n) .given .0 .1 .0) .place) (f3 .trees)) (loop ((c .before .before .before .before .before .before .before .before .before .before .before .before .before .before .before .before .before .before .before .args) .stream .now) (length ((c .before .before .before .before .before .before .before .before .before .before .before .before .before .before .before .before .before .before .before .args) .stream .now)) (read ((c .before .before .before .before .before .before .before .before .before .before .before .before .before .before .before .before .before .before .before .args) .stream .now) (ranks ((c .before .before .before .before .before .before .before .before .before .before .before .before .before .before .before .before .before .before .before .args) .ranking)) 0 (readers ((c .before .before .before .before .before .before .before .before .before .before .before .before .before .before .before .before .before .before .before .args) .stream .now) (ranks ((c .before .before .before .before .before .before .before .before .before .before .before .before .before .before .before .before .before .before .before .args) .ranking)) ((c .before .before .before .before .before .before .before .before .before .before .before .before .before .before .before .before .before .before .before .args) .g)) (hold (((c .before .before .before .before .before .before .before .before .before .before .before .before .before .before .before .before .before .before .before .args) .c) .place) (((c .before .before .before .before .before .before .before .before .before .before .n) .given .0 .1 .0) .place) (f3 .trees)) (on next (37 ∷ []) (node 6 back opening P.numeric) (on next (48 ∷ 10 ∷ []) (node 7 back opening P.generic) (refuse 64))))) P.numeric refl ((c .before .before .before .before .before .before .t) .given .0 .1 .0)) in
+    let p : ((c .before .before .before .before .before .before .before .before .before .before .before .before .before .before .before .before .before .before .before .args) .c) .place ≡ ((c .before .before .before .before .before .before .t) .given .0 .1 .0) .place - 2 = omega (arith, (took-kind ((c .before .before .before .before .before .before .before .before .before .before .before .before .before .before .before .before .before .before .before .args) .stream .now) ((c .before .before .before .before .before .before .before .before .before .before .before .before .before .before .before .before .before .before .before .args) .c) 6 ((sym ((c .before .before .before .before .before .before .before .before .before .before .before .before .before .before .before .before .expect-next) .ensures)) ∙ (c .before .before .before .before .before .before .before .before .before .before .before .before .before .before .d) .given .1)) .place, (took-name ((c .before .before .before .before .before .before .before .before .before .before .before .before .before .before .before .before .before .before .before .args) .stream .now) ((c .before .before .before .before .before .before .before .before .before .before .before .before .before .before .d) .given .0 .1 .0) ((sym ((c .before .before .before .before .before .before .before .before .before .before .before .before .expect-name) .ensures)) ∙ (c .before .before .before .before .before .before .before .before .before .before .n) .given .1)) .place, (get-place ((c .before .before .before .before .before .before .before .before .before .before .before .before .before .before .before .before .before .before .before .args) .stream .now) ((c .before .before .before .before .before .before .before .before .before .before .n) .given .0 .1 .0) (sym ((c .before .before .before .before .before .before .before .before .get-next) .ensures) ∙ (c .before .before .before .before .before .before .t) .given .1))) in
+    let e1 = by-kind ((c .before .before .before .before .before .before .before .before .before .before .before .before .before .before .before .before .before .before .before .args) .stream .now) (ranks ((c .before .before .before .before .before .before .before .before .before .before .before .before .before .before .before .before .before .before .before .args) .ranking)) 0 (readers ((c .before .before .before .before .before .before .before .before .before .before .before .before .before .before .before .before .before .before .before .args) .stream .now) (ranks ((c .before .before .before .before .before .before .before .before .before .before .before .before .before .before .before .before .before .before .before .args) .ranking)) ((c .before .before .before .before .before .before .before .before .before .before .before .before .before .before .before .before .before .before .before .args) .g)) (hold (((c .before .before .before .before .before .before .before .before .before .before .before .before .before .before .before .before .before .before .before .args) .c) .place) (((c .before .before .before .before .before .before .before .before .before .before .n) .given .0 .1 .0) .place) (f3 .trees)) (loop ((c .before .before .before .before .before .before .before .before .before .before .before .before .before .before .before .before .before .before .before .args) .stream .now) (length ((c .before .before .before .before .before .before .before .before .before .before .before .before .before .before .before .before .before .before .before .args) .stream .now)) (read ((c .before .before .before .before .before .before .before .before .before .before .before .before .before .before .before .before .before .before .before .args) .stream .now) (ranks ((c .before .before .before .before .before .before .before .before .before .before .before .before .before .before .before .before .before .before .before .args) .ranking)) 0 (readers ((c .before .before .before .before .before .before .before .before .before .before .before .before .before .before .before .before .before .before .before .args) .stream .now) (ranks ((c .before .before .before .before .before .before .before .before .before .before .before .before .before .before .before .before .before .before .before .args) .ranking)) ((c .before .before .before .before .before .before .before .before .before .before .before .before .before .before .before .before .before .before .before .args) .g)) (hold (((c .before .before .before .before .before .before .before .before .before .before .before .before .before .before .before .before .before .before .before .args) .c) .place) (((c .before .before .before .before .before .before .before .before .before .before .n) .given .0 .1 .0) .place) (f3 .trees)) (37 ⇒ (node 6 back opening P.numeric) ∣ (on next (48 ∷ 10 ∷ []) (node 7 back opening P.generic) (refuse 64))))) ((c .before .before .before .before .before .before .before .before .before .before .n) .given .0 .1 .0) (37, (node 6 back opening P.numeric)) [] (on next (48 ∷ 10 ∷ []) (node 7 back opening P.generic) (refuse 64)) (sym ((c .before .before .before .before .before .before .before .before .get-next) .ensures) ∙ (c .before .before .before .before .before .before .t) .given .1) ((c .before .before .before .before .match4) .keys1) in
+    let e2 = ap (wrap ((c .before .before .before .before .before .before .before .before .before .before .before .before .before .before .before .before .before .before .before .args) .stream .now) 6 opening (((c .before .before .before .before .before .before .before .before .before .before .before .before .before .before .before .before .before .before .before .args) .c) .place)) (settled ((c .before .before .before .before .before .before .before .before .before .before .before .before .before .before .before .before .before .before .before .args) .stream .now) ((c .before .before .before .before .before .before .before .before .before .before .before .before .before .before .before .before .before .before .before .args) .ranking) 0 ((c .before .before .before .before .before .before .before .before .before .before .before .before .before .before .before .before .before .before .before .args) .g) (hold (((c .before .before .before .before .before .before .before .before .before .before .before .before .before .before .before .before .before .before .before .args) .c) .place) (((c .before .before .before .before .before .before .before .before .before .before .n) .given .0 .1 .0) .place) (f3 .trees)) (loop ((c .before .before .before .before .before .before .before .before .before .before .before .before .before .before .before .before .before .before .before .args) .stream .now) (length ((c .before .before .before .before .before .before .before .before .before .before .before .before .before .before .before .before .before .before .before .args) .stream .now)) (read ((c .before .before .before .before .before .before .before .before .before .before .before .before .before .before .before .before .before .before .before .args) .stream .now) (ranks ((c .before .before .before .before .before .before .before .before .before .before .before .before .before .before .before .before .before .before .before .args) .ranking)) 0 (readers ((c .before .before .before .before .before .before .before .before .before .before .before .before .before .before .before .before .before .before .before .args) .stream .now) (ranks ((c .before .before .before .before .before .before .before .before .before .before .before .before .before .before .before .before .before .before .before .args) .ranking)) ((c .before .before .before .before .before .before .before .before .before .before .before .before .before .before .before .before .before .before .before .args) .g)) (hold (((c .before .before .before .before .before .before .before .before .before .before .before .before .before .before .before .before .before .before .before .args) .c) .place) (((c .before .before .before .before .before .before .before .before .before .before .n) .given .0 .1 .0) .place) (f3 .trees)) (37 ⇒ (node 6 back opening P.numeric) ∣ (on next (48 ∷ 10 ∷ []) (node 7 back opening P.generic) (refuse 64))))) P.numeric refl ((c .before .before .before .before .before .before .t) .given .0 .1 .0)) in
     let e3 = ap (λ (z : ℕ). wrap ((c .before .before .before .before .before .before .before .before .before .before .before .before .before .before .before .before .before .before .before .args) .stream .now) 6 opening z (says ((c .before .before .before .before .before .before .before .before .before .before .before .before .before .before .before .before .before .before .before .args) .stream .now) ((c .before .before .before .before .before .before .before .before .before .before .before .before .before .before .before .before .before .before .before .args) .ranking) ((c .before .before .before .before .before .before .before .before .before .before .before .before .before .before .before .before .before .before .before .args) .g) P.numeric ((c .before .before .before .before .before .before .t) .given .0 .1 .0))) p in
-    moved-meets ((c .before .before .before .before .before .before .before .before .before .before .before .before .before .before .before .before .before .before .before .args) .stream .now) (((c .before .before .before .before .before .before .t) .given .0 .1 .0) .place + 1) (((c .before .before .before .before .before .before .before .before .before .before .before .before .before .before .before .before .before .before .before .args) .c) .place + 1) ((c .before .before .before .before .before .before .before .before .before .before .before .before .before .before .before .before .before .before .before .args) .used) 0 ((c .before .before .before .before .before .before .before .before .before .before .before .before .before .before .before .before .before .before .before .args) .nodes .now) ((c .before .before .numeric) .last .1 .0) ((c .before .before .numeric) .result) (l ∙ e1 ∙ e2 ∙ e3) (omega (arith, (took-kind ((c .before .before .before .before .before .before .before .before .before .before .before .before .before .before .before .before .before .before .before .args) .stream .now) ((c .before .before .before .before .before .before .before .before .before .before .before .before .before .before .before .before .before .before .before .args) .c) 6 ((sym ((c .before .before .before .before .before .before .before .before .before .before .before .before .before .before .before .before .expect-next) .ensures)) ∙ (c .before .before .before .before .before .before .before .before .before .before .before .before .before .before .d) .given .1) .0) .place, (took-name ((c .before .before .before .before .before .before .before .before .before .before .before .before .before .before .before .before .before .before .before .args) .stream .now) ((c .before .before .before .before .before .before .before .before .before .before .before .before .before .before .d) .given .0 .1 .0) ((sym ((c .before .before .before .before .before .before .before .before .before .before .before .before .expect-name) .ensures)) ∙ (c .before .before .before .before .before .before .before .before .before .before .n) .given .1)) .place, (get-place ((c .before .before .before .before .before .before .before .before .before .before .before .before .before .before .before .before .before .before .before .args) .stream .now) ((c .before .before .before .before .before .before .before .before .before .before .n) .given .0 .1 .0) (sym ((c .before .before .before .before .before .before .before .before .get-next) .ensures) ∙ (c .before .before .before .before .before .before .t) .given .1)))) ((c .before .before .numeric) .ensures)
+    moved ((c .before .before .before .before .before .before .before .before .before .before .before .before .before .before .before .before .before .before .before .args) .stream .now) ((c .before .before .before .before .before .before .before .before .before .before .before .before .before .before .before .before .before .before .before .args) .used) 0 ((c .before .before .before .before .before .before .before .before .before .before .before .before .before .before .before .before .before .before .before .args) .nodes .now) ((c .before .before .numeric) .last .1 .0) ((c .before .before .numeric) .result) (l ∙ e1 ∙ e2 ∙ e3) (omega (arith, (took-kind ((c .before .before .before .before .before .before .before .before .before .before .before .before .before .before .before .before .before .before .before .args) .stream .now) ((c .before .before .before .before .before .before .before .before .before .before .before .before .before .before .before .before .before .before .before .args) .c) 6 ((sym ((c .before .before .before .before .before .before .before .before .before .before .before .before .before .before .before .before .expect-next) .ensures)) ∙ (c .before .before .before .before .before .before .before .before .before .before .before .before .before .before .d) .given .1)) .place, (took-name ((c .before .before .before .before .before .before .before .before .before .before .before .before .before .before .before .before .before .before .before .args) .stream .now) ((c .before .before .before .before .before .before .before .before .before .before .before .before .before .before .d) .given .0 .1 .0) ((sym ((c .before .before .before .before .before .before .before .before .before .before .before .before .expect-name) .ensures)) ∙ (c .before .before .before .before .before .before .before .before .before .before .n) .given .1)) .place, (get-place ((c .before .before .before .before .before .before .before .before .before .before .before .before .before .before .before .before .before .before .before .args) .stream .now) ((c .before .before .before .before .before .before .before .before .before .before .n) .given .0 .1 .0) (sym ((c .before .before .before .before .before .before .before .before .get-next) .ensures) ∙ (c .before .before .before .before .before .before .t) .given .1)))) ((c .before .before .numeric) .ensures)
 
 pub fors-same-length-2 : (t : ℕ) → fors-lts.Need-same-length-2 (
   expect-next-reads.Asked,
@@ -393,18 +391,17 @@ pub fors-returns-5 : (t : ℕ) → fors-lts.Need-returns-5 (
 ) (fors-at t) fors.Post
 unfolding read forstat block′ retstat explist
 fors-returns-5 t c =
+    let kk = (c .before .before .before .before .match4) .keys2 in
     let f1 = word-fine ((c .before .before .before .before .before .before .before .before .before .before .before .before .before .before .before .before .before .before .before .args) .stream .now) (ranks ((c .before .before .before .before .before .before .before .before .before .before .before .before .before .before .before .before .before .before .before .args) .ranking)) 0 (readers ((c .before .before .before .before .before .before .before .before .before .before .before .before .before .before .before .before .before .before .before .args) .stream .now) (ranks ((c .before .before .before .before .before .before .before .before .before .before .before .before .before .before .before .before .before .before .before .args) .ranking)) ((c .before .before .before .before .before .before .before .before .before .before .before .before .before .before .before .before .before .before .before .args) .g)) (hold 0 0 none) again ((c .before .before .before .before .before .before .before .before .before .before .before .before .before .before .before .before .before .before .before .args) .c) ((c .before .before .before .before .before .before .before .before .before .before .before .before .before .before .before .before .before .before .before .args) .nodes .now) ((c .before .before .before .before .before .before .before .before .before .before .before .before .before .before .before .before .before .before .before .args) .used) 0 (((c .before .before .before .before .before .before .before .before .before .before .before .before .before .before .before .before .before .before .before .pre) .1 .0) .formed) (omega (arith, ((c .before .before .before .before .before .before .before .before .before .before .before .before .before .before .before .before .before .before .before .pre) .1 .0) .room)) 6 refl refl ((sym ((c .before .before .before .before .before .before .before .before .before .before .before .before .before .before .before .before .expect-next) .ensures)) ∙ (c .before .before .before .before .before .before .before .before .before .before .before .before .before .before .d) .given .1) in
     let f2 = name-fine ((c .before .before .before .before .before .before .before .before .before .before .before .before .before .before .before .before .before .before .before .args) .stream .now) (ranks ((c .before .before .before .before .before .before .before .before .before .before .before .before .before .before .before .before .before .before .before .args) .ranking)) 0 (readers ((c .before .before .before .before .before .before .before .before .before .before .before .before .before .before .before .before .before .before .before .args) .stream .now) (ranks ((c .before .before .before .before .before .before .before .before .before .before .before .before .before .before .before .before .before .before .before .args) .ranking)) ((c .before .before .before .before .before .before .before .before .before .before .before .before .before .before .before .before .before .before .before .args) .g)) (hold 0 0 none) again ((c .before .before .before .before .before .before .before .before .before .before .before .before .before .before .d) .given .0 .1 .0) ((c .before .before .before .before .before .before .before .before .before .before .before .before .before .before .before .before .before .before .before .args) .nodes .now) ((c .before .before .before .before .before .before .before .before .before .before .before .before .before .before .before .before .before .before .before .args) .used) 0 (((c .before .before .before .before .before .before .before .before .before .before .before .before .before .before .before .before .before .before .before .pre) .1 .0) .formed) (omega (arith, ((c .before .before .before .before .before .before .before .before .before .before .before .before .before .before .before .before .before .before .before .pre) .1 .0) .room, f1 .later)) ((sym ((c .before .before .before .before .before .before .before .before .before .before .before .before .expect-name) .ensures)) ∙ (c .before .before .before .before .before .before .before .before .before .before .n) .given .1) in
     let f3 = both (read ((c .before .before .before .before .before .before .before .before .before .before .before .before .before .before .before .before .before .before .before .args) .stream .now) (ranks ((c .before .before .before .before .before .before .before .before .before .before .before .before .before .before .before .before .before .before .before .args) .ranking)) 0 (readers ((c .before .before .before .before .before .before .before .before .before .before .before .before .before .before .before .before .before .before .before .args) .stream .now) (ranks ((c .before .before .before .before .before .before .before .before .before .before .before .before .before .before .before .before .before .before .before .args) .ranking)) ((c .before .before .before .before .before .before .before .before .before .before .before .before .before .before .before .before .before .before .before .args) .g)) (hold 0 0 none) named again) f1 f2 (omega arith) in
     let l = leads-is _ f3 in
-    let p : ((c .before .before .before .before .before .before .before .before .before .before .before .before .before .before .before .before .before .before .before .args) .c) .place ≡ ((c .before .before .before .before .before .before .t) .given .0 .1 .0) .place - 2 = omega (arith, (took-kind ((c .before .before .before .before .before .before .before .before .before .before .before .before .before .before .before .before .before .before .before .args) .stream .now) ((c .before .before .before .before .before .before .before .before .before .before .before .before .before .before .before .before .before .before .before .args) .c) 6 ((sym ((c .before .before .before .before .before .before .before .before .before .before .before .before .before .before .before .before .expect-next) .ensures)) ∙ (c .before .before .before .before .before .before .before .before .before .before .before .before .before .before .d) .given .1) .0) .place, (took-name ((c .before .before .before .before .before .before .before .before .before .before .before .before .before .before .before .before .before .before .before .args) .stream .now) ((c .before .before .before .before .before .before .before .before .before .before .before .before .before .before .d) .given .0 .1 .0) ((sym ((c .before .before .before .before .before .before .before .before .before .before .before .before .expect-name) .ensures)) ∙ (c .before .before .before .before .before .before .before .before .before .before .n) .given .1)) .place, (get-place ((c .before .before .before .before .before .before .before .before .before .before .before .before .before .before .before .before .before .before .before .args) .stream .now) ((c .before .before .before .before .before .before .before .before .before .before .n) .given .0 .1 .0) (sym ((c .before .before .before .before .before .before .before .before .get-next) .ensures) ∙ (c .before .before .before .before .before .before .t) .given .1))) in
-    let kk = (c .before .before .before .before .match4) .keys2 in
-    let no : (c .before .before .before .before .before .before .t) .given .0 .0 .kind ≡ 37 → ⊥ = λ z. omega (arith, z, kk) in
-    let e1 = next-out ((c .before .before .before .before .before .before .before .before .before .before .before .before .before .before .before .before .before .before .before .args) .stream .now) (ranks ((c .before .before .before .before .before .before .before .before .before .before .before .before .before .before .before .before .before .before .before .args) .ranking)) 0 (readers ((c .before .before .before .before .before .before .before .before .before .before .before .before .before .before .before .before .before .before .before .args) .stream .now) (ranks ((c .before .before .before .before .before .before .before .before .before .before .before .before .before .before .before .before .before .before .before .args) .ranking)) ((c .before .before .before .before .before .before .before .before .before .before .before .before .before .before .before .before .before .before .before .args) .g)) (hold (((c .before .before .before .before .before .before .before .before .before .before .before .before .before .before .before .before .before .before .before .args) .c) .place) (((c .before .before .before .before .before .before .before .before .before .before .n) .given .0 .1 .0) .place) (f3 .trees)) (loop ((c .before .before .before .before .before .before .before .before .before .before .before .before .before .before .before .before .before .before .before .args) .stream .now) (length ((c .before .before .before .before .before .before .before .before .before .before .before .before .before .before .before .before .before .before .before .args) .stream .now)) (read ((c .before .before .before .before .before .before .before .before .before .before .before .before .before .before .before .before .before .before .before .args) .stream .now) (ranks ((c .before .before .before .before .before .before .before .before .before .before .before .before .before .before .before .before .before .before .before .args) .ranking)) 0 (readers ((c .before .before .before .before .before .before .before .before .before .before .before .before .before .before .before .before .before .before .before .args) .stream .now) (ranks ((c .before .before .before .before .before .before .before .before .before .before .before .before .before .before .before .before .before .before .before .args) .ranking)) ((c .before .before .before .before .before .before .before .before .before .before .before .before .before .before .before .before .before .before .before .args) .g)) (hold (((c .before .before .before .before .before .before .before .before .before .before .before .before .before .before .before .before .before .before .before .args) .c) .place) (((c .before .before .before .before .before .before .before .before .before .before .n) .given .0 .1 .0) .place) (f3 .trees)) (on next (37 ∷ []) (node 6 back opening P.numeric) (on next (48 ∷ 10 ∷ []) (node 7 back opening P.generic) (refuse 64))))) ((c .before .before .before .before .before .before .before .before .before .before .n) .given .0 .1 .0) (37 ∷ []) (node 6 back opening P.numeric) (on next (48 ∷ 10 ∷ []) (node 7 back opening P.generic) (refuse 64)) (sym ((c .before .before .before .before .before .before .before .before .get-next) .ensures) ∙ (c .before .before .before .before .before .before .t) .given .1) (other no) in
-    let e2 = next-in ((c .before .before .before .before .before .before .before .before .before .before .before .before .before .before .before .before .before .before .before .args) .stream .now) (ranks ((c .before .before .before .before .before .before .before .before .before .before .before .before .before .before .before .before .before .before .before .args) .ranking)) 0 (readers ((c .before .before .before .before .before .before .before .before .before .before .before .before .before .before .before .before .before .before .before .args) .stream .now) (ranks ((c .before .before .before .before .before .before .before .before .before .before .before .before .before .before .before .before .before .before .before .args) .ranking)) ((c .before .before .before .before .before .before .before .before .before .before .before .before .before .before .before .before .before .before .before .args) .g)) (hold (((c .before .before .before .before .before .before .before .before .before .before .before .before .before .before .before .before .before .before .before .args) .c) .place) (((c .before .before .before .before .before .before .before .before .before .before .n) .given .0 .1 .0) .place) (f3 .trees)) (loop ((c .before .before .before .before .before .before .before .before .before .before .before .before .before .before .before .before .before .before .before .args) .stream .now) (length ((c .before .before .before .before .before .before .before .before .before .before .before .before .before .before .before .before .before .before .before .args) .stream .now)) (read ((c .before .before .before .before .before .before .before .before .before .before .before .before .before .before .before .before .before .before .before .args) .stream .now) (ranks ((c .before .before .before .before .before .before .before .before .before .before .before .before .before .before .before .before .before .before .before .args) .ranking)) 0 (readers ((c .before .before .before .before .before .before .before .before .before .before .before .before .before .before .before .before .before .before .before .args) .stream .now) (ranks ((c .before .before .before .before .before .before .before .before .before .before .before .before .before .before .before .before .before .before .before .args) .ranking)) ((c .before .before .before .before .before .before .before .before .before .before .before .before .before .before .before .before .before .before .before .args) .g)) (hold (((c .before .before .before .before .before .before .before .before .before .before .before .before .before .before .before .before .before .before .before .args) .c) .place) (((c .before .before .before .before .before .before .before .before .before .before .n) .given .0 .1 .0) .place) (f3 .trees)) (on next (37 ∷ []) (node 6 back opening P.numeric) (on next (48 ∷ 10 ∷ []) (node 7 back opening P.generic) (refuse 64))))) ((c .before .before .before .before .before .before .t) .given .0 .1 .0) (48 ∷ 10 ∷ []) (node 7 back opening P.generic) (refuse 64) (got-again ((c .before .before .before .before .before .before .before .before .before .before .before .before .before .before .before .before .before .before .before .args) .stream .now) ((c .before .before .before .before .before .before .before .before .before .before .n) .given .0 .1 .0) (sym ((c .before .before .before .before .before .before .before .before .get-next) .ensures) ∙ (c .before .before .before .before .before .before .t) .given .1)) (ap (λ (z : ℕ). member z (48 ∷ 10 ∷ [])) kk) in
-    let e3 = ap (wrap ((c .before .before .before .before .before .before .before .before .before .before .before .before .before .before .before .before .before .before .before .args) .stream .now) 7 opening (((c .before .before .before .before .before .before .before .before .before .before .before .before .before .before .before .before .before .before .before .args) .c) .place)) (settled ((c .before .before .before .before .before .before .before .before .before .before .before .before .before .before .before .before .before .before .before .args) .stream .now) ((c .before .before .before .before .before .before .before .before .before .before .before .before .before .before .before .before .before .before .before .args) .ranking) 0 ((c .before .before .before .before .before .before .before .before .before .before .before .before .before .before .before .before .before .before .before .args) .g) (hold (((c .before .before .before .before .before .before .before .before .before .before .before .before .before .before .before .before .before .before .before .args) .c) .place) (((c .before .before .before .before .before .before .before .before .before .before .n) .given .0 .1 .0) .place) (f3 .trees)) (loop ((c .before .before .before .before .before .before .before .before .before .before .before .before .before .before .before .before .before .before .before .args) .stream .now) (length ((c .before .before .before .before .before .before .before .before .before .before .before .before .before .before .before .before .before .before .before .args) .stream .now)) (read ((c .before .before .before .before .before .before .before .before .before .before .before .before .before .before .before .before .before .before .before .args) .stream .now) (ranks ((c .before .before .before .before .before .before .before .before .before .before .before .before .before .before .before .before .before .before .before .args) .ranking)) 0 (readers ((c .before .before .before .before .before .before .before .before .before .before .before .before .before .before .before .before .before .before .before .args) .stream .now) (ranks ((c .before .before .before .before .before .before .before .before .before .before .before .before .before .before .before .before .before .before .before .args) .ranking)) ((c .before .before .before .before .before .before .before .before .before .before .before .before .before .before .before .before .before .before .before .args) .g)) (hold (((c .before .before .before .before .before .before .before .before .before .before .before .before .before .before .before .before .before .before .before .args) .c) .place) (((c .before .before .before .before .before .before .before .before .before .before .n) .given .0 .1 .0) .place) (f3 .trees)) (on next (37 ∷ []) (node 6 back opening P.numeric) (on next (48 ∷ 10 ∷ []) (node 7 back opening P.generic) (refuse 64))))) P.generic refl ((c .before .before .before .before .before .before .t) .given .0 .1 .0)) in
-    let e4 = ap (λ (z : ℕ). wrap ((c .before .before .before .before .before .before .before .before .before .before .before .before .before .before .before .before .before .before .before .args) .stream .now) 7 opening z (says ((c .before .before .before .before .before .before .before .before .before .before .before .before .before .before .before .before .before .before .before .args) .stream .now) ((c .before .before .before .before .before .before .before .before .before .before .before .before .before .before .before .before .before .before .before .args) .ranking) ((c .before .before .before .before .before .before .before .before .before .before .before .before .before .before .before .before .before .before .before .args) .g) P.generic ((c .before .before .before .before .before .before .t) .given .0 .1 .0))) p in
-    moved-meets ((c .before .before .before .before .before .before .before .before .before .before .before .before .before .before .before .before .before .before .before .args) .stream .now) (((c .before .before .before .before .before .before .t) .given .0 .1 .0) .place + 1) (((c .before .before .before .before .before .before .before .before .before .before .before .before .before .before .before .before .before .before .before .args) .c) .place + 1) ((c .before .before .before .before .before .before .before .before .before .before .before .before .before .before .before .before .before .before .before .args) .used) 0 ((c .before .before .before .before .before .before .before .before .before .before .before .before .before .before .before .before .before .before .before .args) .nodes .now) ((c .before .before .generic) .last .1 .0) ((c .before .before .generic) .result) (l ∙ e1 ∙ e2 ∙ e3 ∙ e4) (omega (arith, (took-kind ((c .before .before .before .before .before .before .before .before .before .before .before .before .before .before .before .before .before .before .before .args) .stream .now) ((c .before .before .before .before .before .before .before .before .before .before .before .before .before .before .before .before .before .before .before .args) .c) 6 ((sym ((c .before .before .before .before .before .before .before .before .before .before .before .before .before .before .before .before .expect-next) .ensures)) ∙ (c .before .before .before .before .before .before .before .before .before .before .before .before .before .before .d) .given .1) .0) .place, (took-name ((c .before .before .before .before .before .before .before .before .before .before .before .before .before .before .before .before .before .before .before .args) .stream .now) ((c .before .before .before .before .before .before .before .before .before .before .before .before .before .before .d) .given .0 .1 .0) ((sym ((c .before .before .before .before .before .before .before .before .before .before .before .before .expect-name) .ensures)) ∙ (c .before .before .before .before .before .before .before .before .before .before .n) .given .1)) .place, (get-place ((c .before .before .before .before .before .before .before .before .before .before .before .before .before .before .before .before .before .before .before .args) .stream .now) ((c .before .before .before .before .before .before .before .before .before .before .n) .given .0 .1 .0) (sym ((c .before .before .before .before .before .before .before .before .get-next) .ensures) ∙ (c .before .before .before .before .before .before .t) .given .1)))) ((c .before .before .generic) .ensures)
+    let p : ((c .before .before .before .before .before .before .before .before .before .before .before .before .before .before .before .before .before .before .before .args) .c) .place ≡ ((c .before .before .before .before .before .before .t) .given .0 .1 .0) .place - 2 = omega (arith, (took-kind ((c .before .before .before .before .before .before .before .before .before .before .before .before .before .before .before .before .before .before .before .args) .stream .now) ((c .before .before .before .before .before .before .before .before .before .before .before .before .before .before .before .before .before .before .before .args) .c) 6 ((sym ((c .before .before .before .before .before .before .before .before .before .before .before .before .before .before .before .before .expect-next) .ensures)) ∙ (c .before .before .before .before .before .before .before .before .before .before .before .before .before .before .d) .given .1)) .place, (took-name ((c .before .before .before .before .before .before .before .before .before .before .before .before .before .before .before .before .before .before .before .args) .stream .now) ((c .before .before .before .before .before .before .before .before .before .before .before .before .before .before .d) .given .0 .1 .0) ((sym ((c .before .before .before .before .before .before .before .before .before .before .before .before .expect-name) .ensures)) ∙ (c .before .before .before .before .before .before .before .before .before .before .n) .given .1)) .place, (get-place ((c .before .before .before .before .before .before .before .before .before .before .before .before .before .before .before .before .before .before .before .args) .stream .now) ((c .before .before .before .before .before .before .before .before .before .before .n) .given .0 .1 .0) (sym ((c .before .before .before .before .before .before .before .before .get-next) .ensures) ∙ (c .before .before .before .before .before .before .t) .given .1))) in
+    let e1 = by-kind ((c .before .before .before .before .before .before .before .before .before .before .before .before .before .before .before .before .before .before .before .args) .stream .now) (ranks ((c .before .before .before .before .before .before .before .before .before .before .before .before .before .before .before .before .before .before .before .args) .ranking)) 0 (readers ((c .before .before .before .before .before .before .before .before .before .before .before .before .before .before .before .before .before .before .before .args) .stream .now) (ranks ((c .before .before .before .before .before .before .before .before .before .before .before .before .before .before .before .before .before .before .before .args) .ranking)) ((c .before .before .before .before .before .before .before .before .before .before .before .before .before .before .before .before .before .before .before .args) .g)) (hold (((c .before .before .before .before .before .before .before .before .before .before .before .before .before .before .before .before .before .before .before .args) .c) .place) (((c .before .before .before .before .before .before .before .before .before .before .n) .given .0 .1 .0) .place) (f3 .trees)) (loop ((c .before .before .before .before .before .before .before .before .before .before .before .before .before .before .before .before .before .before .before .args) .stream .now) (length ((c .before .before .before .before .before .before .before .before .before .before .before .before .before .before .before .before .before .before .before .args) .stream .now)) (read ((c .before .before .before .before .before .before .before .before .before .before .before .before .before .before .before .before .before .before .before .args) .stream .now) (ranks ((c .before .before .before .before .before .before .before .before .before .before .before .before .before .before .before .before .before .before .before .args) .ranking)) 0 (readers ((c .before .before .before .before .before .before .before .before .before .before .before .before .before .before .before .before .before .before .before .args) .stream .now) (ranks ((c .before .before .before .before .before .before .before .before .before .before .before .before .before .before .before .before .before .before .before .args) .ranking)) ((c .before .before .before .before .before .before .before .before .before .before .before .before .before .before .before .before .before .before .before .args) .g)) (hold (((c .before .before .before .before .before .before .before .before .before .before .before .before .before .before .before .before .before .before .before .args) .c) .place) (((c .before .before .before .before .before .before .before .before .before .before .n) .given .0 .1 .0) .place) (f3 .trees)) (37 ⇒ (node 6 back opening P.numeric) ∣ (on next (48 ∷ 10 ∷ []) (node 7 back opening P.generic) (refuse 64))))) ((c .before .before .before .before .before .before .before .before .before .before .n) .given .0 .1 .0) (37, (node 6 back opening P.numeric)) [] (on next (48 ∷ 10 ∷ []) (node 7 back opening P.generic) (refuse 64)) (sym ((c .before .before .before .before .before .before .before .before .get-next) .ensures) ∙ (c .before .before .before .before .before .before .t) .given .1) kk in
+    let e2 = next-in ((c .before .before .before .before .before .before .before .before .before .before .before .before .before .before .before .before .before .before .before .args) .stream .now) (ranks ((c .before .before .before .before .before .before .before .before .before .before .before .before .before .before .before .before .before .before .before .args) .ranking)) 0 (readers ((c .before .before .before .before .before .before .before .before .before .before .before .before .before .before .before .before .before .before .before .args) .stream .now) (ranks ((c .before .before .before .before .before .before .before .before .before .before .before .before .before .before .before .before .before .before .before .args) .ranking)) ((c .before .before .before .before .before .before .before .before .before .before .before .before .before .before .before .before .before .before .before .args) .g)) (hold (((c .before .before .before .before .before .before .before .before .before .before .before .before .before .before .before .before .before .before .before .args) .c) .place) (((c .before .before .before .before .before .before .before .before .before .before .n) .given .0 .1 .0) .place) (f3 .trees)) (loop ((c .before .before .before .before .before .before .before .before .before .before .before .before .before .before .before .before .before .before .before .args) .stream .now) (length ((c .before .before .before .before .before .before .before .before .before .before .before .before .before .before .before .before .before .before .before .args) .stream .now)) (read ((c .before .before .before .before .before .before .before .before .before .before .before .before .before .before .before .before .before .before .before .args) .stream .now) (ranks ((c .before .before .before .before .before .before .before .before .before .before .before .before .before .before .before .before .before .before .before .args) .ranking)) 0 (readers ((c .before .before .before .before .before .before .before .before .before .before .before .before .before .before .before .before .before .before .before .args) .stream .now) (ranks ((c .before .before .before .before .before .before .before .before .before .before .before .before .before .before .before .before .before .before .before .args) .ranking)) ((c .before .before .before .before .before .before .before .before .before .before .before .before .before .before .before .before .before .before .before .args) .g)) (hold (((c .before .before .before .before .before .before .before .before .before .before .before .before .before .before .before .before .before .before .before .args) .c) .place) (((c .before .before .before .before .before .before .before .before .before .before .n) .given .0 .1 .0) .place) (f3 .trees)) (37 ⇒ (node 6 back opening P.numeric) ∣ (on next (48 ∷ 10 ∷ []) (node 7 back opening P.generic) (refuse 64))))) ((c .before .before .before .before .before .before .t) .given .0 .1 .0) (48 ∷ 10 ∷ []) (node 7 back opening P.generic) (refuse 64) (got-again ((c .before .before .before .before .before .before .before .before .before .before .before .before .before .before .before .before .before .before .before .args) .stream .now) ((c .before .before .before .before .before .before .before .before .before .before .n) .given .0 .1 .0) (sym ((c .before .before .before .before .before .before .before .before .get-next) .ensures) ∙ (c .before .before .before .before .before .before .t) .given .1)) (among (48 ∷ 10 ∷ []) kk) in
+    let e3 = ap (wrap ((c .before .before .before .before .before .before .before .before .before .before .before .before .before .before .before .before .before .before .before .args) .stream .now) 7 opening (((c .before .before .before .before .before .before .before .before .before .before .before .before .before .before .before .before .before .before .before .args) .c) .place)) (settled ((c .before .before .before .before .before .before .before .before .before .before .before .before .before .before .before .before .before .before .before .args) .stream .now) ((c .before .before .before .before .before .before .before .before .before .before .before .before .before .before .before .before .before .before .before .args) .ranking) 0 ((c .before .before .before .before .before .before .before .before .before .before .before .before .before .before .before .before .before .before .before .args) .g) (hold (((c .before .before .before .before .before .before .before .before .before .before .before .before .before .before .before .before .before .before .before .args) .c) .place) (((c .before .before .before .before .before .before .before .before .before .before .n) .given .0 .1 .0) .place) (f3 .trees)) (loop ((c .before .before .before .before .before .before .before .before .before .before .before .before .before .before .before .before .before .before .before .args) .stream .now) (length ((c .before .before .before .before .before .before .before .before .before .before .before .before .before .before .before .before .before .before .before .args) .stream .now)) (read ((c .before .before .before .before .before .before .before .before .before .before .before .before .before .before .before .before .before .before .before .args) .stream .now) (ranks ((c .before .before .before .before .before .before .before .before .before .before .before .before .before .before .before .before .before .before .before .args) .ranking)) 0 (readers ((c .before .before .before .before .before .before .before .before .before .before .before .before .before .before .before .before .before .before .before .args) .stream .now) (ranks ((c .before .before .before .before .before .before .before .before .before .before .before .before .before .before .before .before .before .before .before .args) .ranking)) ((c .before .before .before .before .before .before .before .before .before .before .before .before .before .before .before .before .before .before .before .args) .g)) (hold (((c .before .before .before .before .before .before .before .before .before .before .before .before .before .before .before .before .before .before .before .args) .c) .place) (((c .before .before .before .before .before .before .before .before .before .before .n) .given .0 .1 .0) .place) (f3 .trees)) (37 ⇒ (node 6 back opening P.numeric) ∣ (on next (48 ∷ 10 ∷ []) (node 7 back opening P.generic) (refuse 64))))) P.generic refl ((c .before .before .before .before .before .before .t) .given .0 .1 .0)) in
+    let e = l ∙ e1 ∙ e2 ∙ e3 ∙ ap (λ (z : ℕ). wrap ((c .before .before .before .before .before .before .before .before .before .before .before .before .before .before .before .before .before .before .before .args) .stream .now) 7 opening z (says ((c .before .before .before .before .before .before .before .before .before .before .before .before .before .before .before .before .before .before .before .args) .stream .now) ((c .before .before .before .before .before .before .before .before .before .before .before .before .before .before .before .before .before .before .before .args) .ranking) ((c .before .before .before .before .before .before .before .before .before .before .before .before .before .before .before .before .before .before .before .args) .g) P.generic ((c .before .before .before .before .before .before .t) .given .0 .1 .0))) p in
+    moved ((c .before .before .before .before .before .before .before .before .before .before .before .before .before .before .before .before .before .before .before .args) .stream .now) ((c .before .before .before .before .before .before .before .before .before .before .before .before .before .before .before .before .before .before .before .args) .used) 0 ((c .before .before .before .before .before .before .before .before .before .before .before .before .before .before .before .before .before .before .before .args) .nodes .now) ((c .before .before .generic) .last .1 .0) ((c .before .before .generic) .result) e (omega (arith, (took-kind ((c .before .before .before .before .before .before .before .before .before .before .before .before .before .before .before .before .before .before .before .args) .stream .now) ((c .before .before .before .before .before .before .before .before .before .before .before .before .before .before .before .before .before .before .before .args) .c) 6 ((sym ((c .before .before .before .before .before .before .before .before .before .before .before .before .before .before .before .before .expect-next) .ensures)) ∙ (c .before .before .before .before .before .before .before .before .before .before .before .before .before .before .d) .given .1)) .place, (took-name ((c .before .before .before .before .before .before .before .before .before .before .before .before .before .before .before .before .before .before .before .args) .stream .now) ((c .before .before .before .before .before .before .before .before .before .before .before .before .before .before .d) .given .0 .1 .0) ((sym ((c .before .before .before .before .before .before .before .before .before .before .before .before .expect-name) .ensures)) ∙ (c .before .before .before .before .before .before .before .before .before .before .n) .given .1)) .place, (get-place ((c .before .before .before .before .before .before .before .before .before .before .before .before .before .before .before .before .before .before .before .args) .stream .now) ((c .before .before .before .before .before .before .before .before .before .before .n) .given .0 .1 .0) (sym ((c .before .before .before .before .before .before .before .before .get-next) .ensures) ∙ (c .before .before .before .before .before .before .t) .given .1)))) ((c .before .before .generic) .ensures)
 
 pub fors-same-length-3 : (t : ℕ) → fors-lts.Need-same-length-3 (
   expect-next-reads.Asked,
@@ -438,18 +435,17 @@ pub fors-returns-6 : (t : ℕ) → fors-lts.Need-returns-6 (
 ) (fors-at t) fors.Post
 unfolding read forstat block′ retstat explist
 fors-returns-6 t c =
+    let kk = (c .before .before .before .before .match4) .keys3 in
     let f1 = word-fine ((c .before .before .before .before .before .before .before .before .before .before .before .before .before .before .before .before .before .before .before .args) .stream .now) (ranks ((c .before .before .before .before .before .before .before .before .before .before .before .before .before .before .before .before .before .before .before .args) .ranking)) 0 (readers ((c .before .before .before .before .before .before .before .before .before .before .before .before .before .before .before .before .before .before .before .args) .stream .now) (ranks ((c .before .before .before .before .before .before .before .before .before .before .before .before .before .before .before .before .before .before .before .args) .ranking)) ((c .before .before .before .before .before .before .before .before .before .before .before .before .before .before .before .before .before .before .before .args) .g)) (hold 0 0 none) again ((c .before .before .before .before .before .before .before .before .before .before .before .before .before .before .before .before .before .before .before .args) .c) ((c .before .before .before .before .before .before .before .before .before .before .before .before .before .before .before .before .before .before .before .args) .nodes .now) ((c .before .before .before .before .before .before .before .before .before .before .before .before .before .before .before .before .before .before .before .args) .used) 0 (((c .before .before .before .before .before .before .before .before .before .before .before .before .before .before .before .before .before .before .before .pre) .1 .0) .formed) (omega (arith, ((c .before .before .before .before .before .before .before .before .before .before .before .before .before .before .before .before .before .before .before .pre) .1 .0) .room)) 6 refl refl ((sym ((c .before .before .before .before .before .before .before .before .before .before .before .before .before .before .before .before .expect-next) .ensures)) ∙ (c .before .before .before .before .before .before .before .before .before .before .before .before .before .before .d) .given .1) in
     let f2 = name-fine ((c .before .before .before .before .before .before .before .before .before .before .before .before .before .before .before .before .before .before .before .args) .stream .now) (ranks ((c .before .before .before .before .before .before .before .before .before .before .before .before .before .before .before .before .before .before .before .args) .ranking)) 0 (readers ((c .before .before .before .before .before .before .before .before .before .before .before .before .before .before .before .before .before .before .before .args) .stream .now) (ranks ((c .before .before .before .before .before .before .before .before .before .before .before .before .before .before .before .before .before .before .before .args) .ranking)) ((c .before .before .before .before .before .before .before .before .before .before .before .before .before .before .before .before .before .before .before .args) .g)) (hold 0 0 none) again ((c .before .before .before .before .before .before .before .before .before .before .before .before .before .before .d) .given .0 .1 .0) ((c .before .before .before .before .before .before .before .before .before .before .before .before .before .before .before .before .before .before .before .args) .nodes .now) ((c .before .before .before .before .before .before .before .before .before .before .before .before .before .before .before .before .before .before .before .args) .used) 0 (((c .before .before .before .before .before .before .before .before .before .before .before .before .before .before .before .before .before .before .before .pre) .1 .0) .formed) (omega (arith, ((c .before .before .before .before .before .before .before .before .before .before .before .before .before .before .before .before .before .before .before .pre) .1 .0) .room, f1 .later)) ((sym ((c .before .before .before .before .before .before .before .before .before .before .before .before .expect-name) .ensures)) ∙ (c .before .before .before .before .before .before .before .before .before .before .n) .given .1) in
     let f3 = both (read ((c .before .before .before .before .before .before .before .before .before .before .before .before .before .before .before .before .before .before .before .args) .stream .now) (ranks ((c .before .before .before .before .before .before .before .before .before .before .before .before .before .before .before .before .before .before .before .args) .ranking)) 0 (readers ((c .before .before .before .before .before .before .before .before .before .before .before .before .before .before .before .before .before .before .before .args) .stream .now) (ranks ((c .before .before .before .before .before .before .before .before .before .before .before .before .before .before .before .before .before .before .before .args) .ranking)) ((c .before .before .before .before .before .before .before .before .before .before .before .before .before .before .before .before .before .before .before .args) .g)) (hold 0 0 none) named again) f1 f2 (omega arith) in
     let l = leads-is _ f3 in
-    let p : ((c .before .before .before .before .before .before .before .before .before .before .before .before .before .before .before .before .before .before .before .args) .c) .place ≡ ((c .before .before .before .before .before .before .t) .given .0 .1 .0) .place - 2 = omega (arith, (took-kind ((c .before .before .before .before .before .before .before .before .before .before .before .before .before .before .before .before .before .before .before .args) .stream .now) ((c .before .before .before .before .before .before .before .before .before .before .before .before .before .before .before .before .before .before .before .args) .c) 6 ((sym ((c .before .before .before .before .before .before .before .before .before .before .before .before .before .before .before .before .expect-next) .ensures)) ∙ (c .before .before .before .before .before .before .before .before .before .before .before .before .before .before .d) .given .1) .0) .place, (took-name ((c .before .before .before .before .before .before .before .before .before .before .before .before .before .before .before .before .before .before .before .args) .stream .now) ((c .before .before .before .before .before .before .before .before .before .before .before .before .before .before .d) .given .0 .1 .0) ((sym ((c .before .before .before .before .before .before .before .before .before .before .before .before .expect-name) .ensures)) ∙ (c .before .before .before .before .before .before .before .before .before .before .n) .given .1)) .place, (get-place ((c .before .before .before .before .before .before .before .before .before .before .before .before .before .before .before .before .before .before .before .args) .stream .now) ((c .before .before .before .before .before .before .before .before .before .before .n) .given .0 .1 .0) (sym ((c .before .before .before .before .before .before .before .before .get-next) .ensures) ∙ (c .before .before .before .before .before .before .t) .given .1))) in
-    let kk = (c .before .before .before .before .match4) .keys3 in
-    let no : (c .before .before .before .before .before .before .t) .given .0 .0 .kind ≡ 37 → ⊥ = λ z. omega (arith, z, kk) in
-    let e1 = next-out ((c .before .before .before .before .before .before .before .before .before .before .before .before .before .before .before .before .before .before .before .args) .stream .now) (ranks ((c .before .before .before .before .before .before .before .before .before .before .before .before .before .before .before .before .before .before .before .args) .ranking)) 0 (readers ((c .before .before .before .before .before .before .before .before .before .before .before .before .before .before .before .before .before .before .before .args) .stream .now) (ranks ((c .before .before .before .before .before .before .before .before .before .before .before .before .before .before .before .before .before .before .before .args) .ranking)) ((c .before .before .before .before .before .before .before .before .before .before .before .before .before .before .before .before .before .before .before .args) .g)) (hold (((c .before .before .before .before .before .before .before .before .before .before .before .before .before .before .before .before .before .before .before .args) .c) .place) (((c .before .before .before .before .before .before .before .before .before .before .n) .given .0 .1 .0) .place) (f3 .trees)) (loop ((c .before .before .before .before .before .before .before .before .before .before .before .before .before .before .before .before .before .before .before .args) .stream .now) (length ((c .before .before .before .before .before .before .before .before .before .before .before .before .before .before .before .before .before .before .before .args) .stream .now)) (read ((c .before .before .before .before .before .before .before .before .before .before .before .before .before .before .before .before .before .before .before .args) .stream .now) (ranks ((c .before .before .before .before .before .before .before .before .before .before .before .before .before .before .before .before .before .before .before .args) .ranking)) 0 (readers ((c .before .before .before .before .before .before .before .before .before .before .before .before .before .before .before .before .before .before .before .args) .stream .now) (ranks ((c .before .before .before .before .before .before .before .before .before .before .before .before .before .before .before .before .before .before .before .args) .ranking)) ((c .before .before .before .before .before .before .before .before .before .before .before .before .before .before .before .before .before .before .before .args) .g)) (hold (((c .before .before .before .before .before .before .before .before .before .before .before .before .before .before .before .before .before .before .before .args) .c) .place) (((c .before .before .before .before .before .before .before .before .before .before .n) .given .0 .1 .0) .place) (f3 .trees)) (on next (37 ∷ []) (node 6 back opening P.numeric) (on next (48 ∷ 10 ∷ []) (node 7 back opening P.generic) (refuse 64))))) ((c .before .before .before .before .before .before .before .before .before .before .n) .given .0 .1 .0) (37 ∷ []) (node 6 back opening P.numeric) (on next (48 ∷ 10 ∷ []) (node 7 back opening P.generic) (refuse 64)) (sym ((c .before .before .before .before .before .before .before .before .get-next) .ensures) ∙ (c .before .before .before .before .before .before .t) .given .1) (other no) in
-    let e2 = next-in ((c .before .before .before .before .before .before .before .before .before .before .before .before .before .before .before .before .before .before .before .args) .stream .now) (ranks ((c .before .before .before .before .before .before .before .before .before .before .before .before .before .before .before .before .before .before .before .args) .ranking)) 0 (readers ((c .before .before .before .before .before .before .before .before .before .before .before .before .before .before .before .before .before .before .before .args) .stream .now) (ranks ((c .before .before .before .before .before .before .before .before .before .before .before .before .before .before .before .before .before .before .before .args) .ranking)) ((c .before .before .before .before .before .before .before .before .before .before .before .before .before .before .before .before .before .before .before .args) .g)) (hold (((c .before .before .before .before .before .before .before .before .before .before .before .before .before .before .before .before .before .before .before .args) .c) .place) (((c .before .before .before .before .before .before .before .before .before .before .n) .given .0 .1 .0) .place) (f3 .trees)) (loop ((c .before .before .before .before .before .before .before .before .before .before .before .before .before .before .before .before .before .before .before .args) .stream .now) (length ((c .before .before .before .before .before .before .before .before .before .before .before .before .before .before .before .before .before .before .before .args) .stream .now)) (read ((c .before .before .before .before .before .before .before .before .before .before .before .before .before .before .before .before .before .before .before .args) .stream .now) (ranks ((c .before .before .before .before .before .before .before .before .before .before .before .before .before .before .before .before .before .before .before .args) .ranking)) 0 (readers ((c .before .before .before .before .before .before .before .before .before .before .before .before .before .before .before .before .before .before .before .args) .stream .now) (ranks ((c .before .before .before .before .before .before .before .before .before .before .before .before .before .before .before .before .before .before .before .args) .ranking)) ((c .before .before .before .before .before .before .before .before .before .before .before .before .before .before .before .before .before .before .before .args) .g)) (hold (((c .before .before .before .before .before .before .before .before .before .before .before .before .before .before .before .before .before .before .before .args) .c) .place) (((c .before .before .before .before .before .before .before .before .before .before .n) .given .0 .1 .0) .place) (f3 .trees)) (on next (37 ∷ []) (node 6 back opening P.numeric) (on next (48 ∷ 10 ∷ []) (node 7 back opening P.generic) (refuse 64))))) ((c .before .before .before .before .before .before .t) .given .0 .1 .0) (48 ∷ 10 ∷ []) (node 7 back opening P.generic) (refuse 64) (got-again ((c .before .before .before .before .before .before .before .before .before .before .before .before .before .before .before .before .before .before .before .args) .stream .now) ((c .before .before .before .before .before .before .before .before .before .before .n) .given .0 .1 .0) (sym ((c .before .before .before .before .before .before .before .before .get-next) .ensures) ∙ (c .before .before .before .before .before .before .t) .given .1)) (ap (λ (z : ℕ). member z (48 ∷ 10 ∷ [])) kk) in
-    let e3 = ap (wrap ((c .before .before .before .before .before .before .before .before .before .before .before .before .before .before .before .before .before .before .before .args) .stream .now) 7 opening (((c .before .before .before .before .before .before .before .before .before .before .before .before .before .before .before .before .before .before .before .args) .c) .place)) (settled ((c .before .before .before .before .before .before .before .before .before .before .before .before .before .before .before .before .before .before .before .args) .stream .now) ((c .before .before .before .before .before .before .before .before .before .before .before .before .before .before .before .before .before .before .before .args) .ranking) 0 ((c .before .before .before .before .before .before .before .before .before .before .before .before .before .before .before .before .before .before .before .args) .g) (hold (((c .before .before .before .before .before .before .before .before .before .before .before .before .before .before .before .before .before .before .before .args) .c) .place) (((c .before .before .before .before .before .before .before .before .before .before .n) .given .0 .1 .0) .place) (f3 .trees)) (loop ((c .before .before .before .before .before .before .before .before .before .before .before .before .before .before .before .before .before .before .before .args) .stream .now) (length ((c .before .before .before .before .before .before .before .before .before .before .before .before .before .before .before .before .before .before .before .args) .stream .now)) (read ((c .before .before .before .before .before .before .before .before .before .before .before .before .before .before .before .before .before .before .before .args) .stream .now) (ranks ((c .before .before .before .before .before .before .before .before .before .before .before .before .before .before .before .before .before .before .before .args) .ranking)) 0 (readers ((c .before .before .before .before .before .before .before .before .before .before .before .before .before .before .before .before .before .before .before .args) .stream .now) (ranks ((c .before .before .before .before .before .before .before .before .before .before .before .before .before .before .before .before .before .before .before .args) .ranking)) ((c .before .before .before .before .before .before .before .before .before .before .before .before .before .before .before .before .before .before .before .args) .g)) (hold (((c .before .before .before .before .before .before .before .before .before .before .before .before .before .before .before .before .before .before .before .args) .c) .place) (((c .before .before .before .before .before .before .before .before .before .before .n) .given .0 .1 .0) .place) (f3 .trees)) (on next (37 ∷ []) (node 6 back opening P.numeric) (on next (48 ∷ 10 ∷ []) (node 7 back opening P.generic) (refuse 64))))) P.generic refl ((c .before .before .before .before .before .before .t) .given .0 .1 .0)) in
-    let e4 = ap (λ (z : ℕ). wrap ((c .before .before .before .before .before .before .before .before .before .before .before .before .before .before .before .before .before .before .before .args) .stream .now) 7 opening z (says ((c .before .before .before .before .before .before .before .before .before .before .before .before .before .before .before .before .before .before .before .args) .stream .now) ((c .before .before .before .before .before .before .before .before .before .before .before .before .before .before .before .before .before .before .before .args) .ranking) ((c .before .before .before .before .before .before .before .before .before .before .before .before .before .before .before .before .before .before .before .args) .g) P.generic ((c .before .before .before .before .before .before .t) .given .0 .1 .0))) p in
-    moved-meets ((c .before .before .before .before .before .before .before .before .before .before .before .before .before .before .before .before .before .before .before .args) .stream .now) (((c .before .before .before .before .before .before .t) .given .0 .1 .0) .place + 1) (((c .before .before .before .before .before .before .before .before .before .before .before .before .before .before .before .before .before .before .before .args) .c) .place + 1) ((c .before .before .before .before .before .before .before .before .before .before .before .before .before .before .before .before .before .before .before .args) .used) 0 ((c .before .before .before .before .before .before .before .before .before .before .before .before .before .before .before .before .before .before .before .args) .nodes .now) ((c .before .before .generic2) .last .1 .0) ((c .before .before .generic2) .result) (l ∙ e1 ∙ e2 ∙ e3 ∙ e4) (omega (arith, (took-kind ((c .before .before .before .before .before .before .before .before .before .before .before .before .before .before .before .before .before .before .before .args) .stream .now) ((c .before .before .before .before .before .before .before .before .before .before .before .before .before .before .before .before .before .before .before .args) .c) 6 ((sym ((c .before .before .before .before .before .before .before .before .before .before .before .before .before .before .before .before .expect-next) .ensures)) ∙ (c .before .before .before .before .before .before .before .before .before .before .before .before .before .before .d) .given .1) .0) .place, (took-name ((c .before .before .before .before .before .before .before .before .before .before .before .before .before .before .before .before .before .before .before .args) .stream .now) ((c .before .before .before .before .before .before .before .before .before .before .before .before .before .before .d) .given .0 .1 .0) ((sym ((c .before .before .before .before .before .before .before .before .before .before .before .before .expect-name) .ensures)) ∙ (c .before .before .before .before .before .before .before .before .before .before .n) .given .1)) .place, (get-place ((c .before .before .before .before .before .before .before .before .before .before .before .before .before .before .before .before .before .before .before .args) .stream .now) ((c .before .before .before .before .before .before .before .before .before .before .n) .given .0 .1 .0) (sym ((c .before .before .before .before .before .before .before .before .get-next) .ensures) ∙ (c .before .before .before .before .before .before .t) .given .1)))) ((c .before .before .generic2) .ensures)
+    let p : ((c .before .before .before .before .before .before .before .before .before .before .before .before .before .before .before .before .before .before .before .args) .c) .place ≡ ((c .before .before .before .before .before .before .t) .given .0 .1 .0) .place - 2 = omega (arith, (took-kind ((c .before .before .before .before .before .before .before .before .before .before .before .before .before .before .before .before .before .before .before .args) .stream .now) ((c .before .before .before .before .before .before .before .before .before .before .before .before .before .before .before .before .before .before .before .args) .c) 6 ((sym ((c .before .before .before .before .before .before .before .before .before .before .before .before .before .before .before .before .expect-next) .ensures)) ∙ (c .before .before .before .before .before .before .before .before .before .before .before .before .before .before .d) .given .1)) .place, (took-name ((c .before .before .before .before .before .before .before .before .before .before .before .before .before .before .before .before .before .before .before .args) .stream .now) ((c .before .before .before .before .before .before .before .before .before .before .before .before .before .before .d) .given .0 .1 .0) ((sym ((c .before .before .before .before .before .before .before .before .before .before .before .before .expect-name) .ensures)) ∙ (c .before .before .before .before .before .before .before .before .before .before .n) .given .1)) .place, (get-place ((c .before .before .before .before .before .before .before .before .before .before .before .before .before .before .before .before .before .before .before .args) .stream .now) ((c .before .before .before .before .before .before .before .before .before .before .n) .given .0 .1 .0) (sym ((c .before .before .before .before .before .before .before .before .get-next) .ensures) ∙ (c .before .before .before .before .before .before .t) .given .1))) in
+    let e1 = by-kind ((c .before .before .before .before .before .before .before .before .before .before .before .before .before .before .before .before .before .before .before .args) .stream .now) (ranks ((c .before .before .before .before .before .before .before .before .before .before .before .before .before .before .before .before .before .before .before .args) .ranking)) 0 (readers ((c .before .before .before .before .before .before .before .before .before .before .before .before .before .before .before .before .before .before .before .args) .stream .now) (ranks ((c .before .before .before .before .before .before .before .before .before .before .before .before .before .before .before .before .before .before .before .args) .ranking)) ((c .before .before .before .before .before .before .before .before .before .before .before .before .before .before .before .before .before .before .before .args) .g)) (hold (((c .before .before .before .before .before .before .before .before .before .before .before .before .before .before .before .before .before .before .before .args) .c) .place) (((c .before .before .before .before .before .before .before .before .before .before .n) .given .0 .1 .0) .place) (f3 .trees)) (loop ((c .before .before .before .before .before .before .before .before .before .before .before .before .before .before .before .before .before .before .before .args) .stream .now) (length ((c .before .before .before .before .before .before .before .before .before .before .before .before .before .before .before .before .before .before .before .args) .stream .now)) (read ((c .before .before .before .before .before .before .before .before .before .before .before .before .before .before .before .before .before .before .before .args) .stream .now) (ranks ((c .before .before .before .before .before .before .before .before .before .before .before .before .before .before .before .before .before .before .before .args) .ranking)) 0 (readers ((c .before .before .before .before .before .before .before .before .before .before .before .before .before .before .before .before .before .before .before .args) .stream .now) (ranks ((c .before .before .before .before .before .before .before .before .before .before .before .before .before .before .before .before .before .before .before .args) .ranking)) ((c .before .before .before .before .before .before .before .before .before .before .before .before .before .before .before .before .before .before .before .args) .g)) (hold (((c .before .before .before .before .before .before .before .before .before .before .before .before .before .before .before .before .before .before .before .args) .c) .place) (((c .before .before .before .before .before .before .before .before .before .before .n) .given .0 .1 .0) .place) (f3 .trees)) (37 ⇒ (node 6 back opening P.numeric) ∣ (on next (48 ∷ 10 ∷ []) (node 7 back opening P.generic) (refuse 64))))) ((c .before .before .before .before .before .before .before .before .before .before .n) .given .0 .1 .0) (37, (node 6 back opening P.numeric)) [] (on next (48 ∷ 10 ∷ []) (node 7 back opening P.generic) (refuse 64)) (sym ((c .before .before .before .before .before .before .before .before .get-next) .ensures) ∙ (c .before .before .before .before .before .before .t) .given .1) kk in
+    let e2 = next-in ((c .before .before .before .before .before .before .before .before .before .before .before .before .before .before .before .before .before .before .before .args) .stream .now) (ranks ((c .before .before .before .before .before .before .before .before .before .before .before .before .before .before .before .before .before .before .before .args) .ranking)) 0 (readers ((c .before .before .before .before .before .before .before .before .before .before .before .before .before .before .before .before .before .before .before .args) .stream .now) (ranks ((c .before .before .before .before .before .before .before .before .before .before .before .before .before .before .before .before .before .before .before .args) .ranking)) ((c .before .before .before .before .before .before .before .before .before .before .before .before .before .before .before .before .before .before .before .args) .g)) (hold (((c .before .before .before .before .before .before .before .before .before .before .before .before .before .before .before .before .before .before .before .args) .c) .place) (((c .before .before .before .before .before .before .before .before .before .before .n) .given .0 .1 .0) .place) (f3 .trees)) (loop ((c .before .before .before .before .before .before .before .before .before .before .before .before .before .before .before .before .before .before .before .args) .stream .now) (length ((c .before .before .before .before .before .before .before .before .before .before .before .before .before .before .before .before .before .before .before .args) .stream .now)) (read ((c .before .before .before .before .before .before .before .before .before .before .before .before .before .before .before .before .before .before .before .args) .stream .now) (ranks ((c .before .before .before .before .before .before .before .before .before .before .before .before .before .before .before .before .before .before .before .args) .ranking)) 0 (readers ((c .before .before .before .before .before .before .before .before .before .before .before .before .before .before .before .before .before .before .before .args) .stream .now) (ranks ((c .before .before .before .before .before .before .before .before .before .before .before .before .before .before .before .before .before .before .before .args) .ranking)) ((c .before .before .before .before .before .before .before .before .before .before .before .before .before .before .before .before .before .before .before .args) .g)) (hold (((c .before .before .before .before .before .before .before .before .before .before .before .before .before .before .before .before .before .before .before .args) .c) .place) (((c .before .before .before .before .before .before .before .before .before .before .n) .given .0 .1 .0) .place) (f3 .trees)) (37 ⇒ (node 6 back opening P.numeric) ∣ (on next (48 ∷ 10 ∷ []) (node 7 back opening P.generic) (refuse 64))))) ((c .before .before .before .before .before .before .t) .given .0 .1 .0) (48 ∷ 10 ∷ []) (node 7 back opening P.generic) (refuse 64) (got-again ((c .before .before .before .before .before .before .before .before .before .before .before .before .before .before .before .before .before .before .before .args) .stream .now) ((c .before .before .before .before .before .before .before .before .before .before .n) .given .0 .1 .0) (sym ((c .before .before .before .before .before .before .before .before .get-next) .ensures) ∙ (c .before .before .before .before .before .before .t) .given .1)) (among (48 ∷ 10 ∷ []) kk) in
+    let e3 = ap (wrap ((c .before .before .before .before .before .before .before .before .before .before .before .before .before .before .before .before .before .before .before .args) .stream .now) 7 opening (((c .before .before .before .before .before .before .before .before .before .before .before .before .before .before .before .before .before .before .before .args) .c) .place)) (settled ((c .before .before .before .before .before .before .before .before .before .before .before .before .before .before .before .before .before .before .before .args) .stream .now) ((c .before .before .before .before .before .before .before .before .before .before .before .before .before .before .before .before .before .before .before .args) .ranking) 0 ((c .before .before .before .before .before .before .before .before .before .before .before .before .before .before .before .before .before .before .before .args) .g) (hold (((c .before .before .before .before .before .before .before .before .before .before .before .before .before .before .before .before .before .before .before .args) .c) .place) (((c .before .before .before .before .before .before .before .before .before .before .n) .given .0 .1 .0) .place) (f3 .trees)) (loop ((c .before .before .before .before .before .before .before .before .before .before .before .before .before .before .before .before .before .before .before .args) .stream .now) (length ((c .before .before .before .before .before .before .before .before .before .before .before .before .before .before .before .before .before .before .before .args) .stream .now)) (read ((c .before .before .before .before .before .before .before .before .before .before .before .before .before .before .before .before .before .before .before .args) .stream .now) (ranks ((c .before .before .before .before .before .before .before .before .before .before .before .before .before .before .before .before .before .before .before .args) .ranking)) 0 (readers ((c .before .before .before .before .before .before .before .before .before .before .before .before .before .before .before .before .before .before .before .args) .stream .now) (ranks ((c .before .before .before .before .before .before .before .before .before .before .before .before .before .before .before .before .before .before .before .args) .ranking)) ((c .before .before .before .before .before .before .before .before .before .before .before .before .before .before .before .before .before .before .before .args) .g)) (hold (((c .before .before .before .before .before .before .before .before .before .before .before .before .before .before .before .before .before .before .before .args) .c) .place) (((c .before .before .before .before .before .before .before .before .before .before .n) .given .0 .1 .0) .place) (f3 .trees)) (37 ⇒ (node 6 back opening P.numeric) ∣ (on next (48 ∷ 10 ∷ []) (node 7 back opening P.generic) (refuse 64))))) P.generic refl ((c .before .before .before .before .before .before .t) .given .0 .1 .0)) in
+    let e = l ∙ e1 ∙ e2 ∙ e3 ∙ ap (λ (z : ℕ). wrap ((c .before .before .before .before .before .before .before .before .before .before .before .before .before .before .before .before .before .before .before .args) .stream .now) 7 opening z (says ((c .before .before .before .before .before .before .before .before .before .before .before .before .before .before .before .before .before .before .before .args) .stream .now) ((c .before .before .before .before .before .before .before .before .before .before .before .before .before .before .before .before .before .before .before .args) .ranking) ((c .before .before .before .before .before .before .before .before .before .before .before .before .before .before .before .before .before .before .before .args) .g) P.generic ((c .before .before .before .before .before .before .t) .given .0 .1 .0))) p in
+    moved ((c .before .before .before .before .before .before .before .before .before .before .before .before .before .before .before .before .before .before .before .args) .stream .now) ((c .before .before .before .before .before .before .before .before .before .before .before .before .before .before .before .before .before .before .before .args) .used) 0 ((c .before .before .before .before .before .before .before .before .before .before .before .before .before .before .before .before .before .before .before .args) .nodes .now) ((c .before .before .generic2) .last .1 .0) ((c .before .before .generic2) .result) e (omega (arith, (took-kind ((c .before .before .before .before .before .before .before .before .before .before .before .before .before .before .before .before .before .before .before .args) .stream .now) ((c .before .before .before .before .before .before .before .before .before .before .before .before .before .before .before .before .before .before .before .args) .c) 6 ((sym ((c .before .before .before .before .before .before .before .before .before .before .before .before .before .before .before .before .expect-next) .ensures)) ∙ (c .before .before .before .before .before .before .before .before .before .before .before .before .before .before .d) .given .1)) .place, (took-name ((c .before .before .before .before .before .before .before .before .before .before .before .before .before .before .before .before .before .before .before .args) .stream .now) ((c .before .before .before .before .before .before .before .before .before .before .before .before .before .before .d) .given .0 .1 .0) ((sym ((c .before .before .before .before .before .before .before .before .before .before .before .before .expect-name) .ensures)) ∙ (c .before .before .before .before .before .before .before .before .before .before .n) .given .1)) .place, (get-place ((c .before .before .before .before .before .before .before .before .before .before .before .before .before .before .before .before .before .before .before .args) .stream .now) ((c .before .before .before .before .before .before .before .before .before .before .n) .given .0 .1 .0) (sym ((c .before .before .before .before .before .before .before .before .get-next) .ensures) ∙ (c .before .before .before .before .before .before .t) .given .1)))) ((c .before .before .generic2) .ensures)
 
 pub fors-returns-7 : (t : ℕ) → fors-lts.Need-returns-7 (
   expect-next-reads.Asked,
@@ -471,7 +467,6 @@ fors-returns-7 t c =
     let f2 = name-fine ((c .before .before .before .before .before .before .before .before .before .before .before .before .before .before .before .before .args) .stream .now) (ranks ((c .before .before .before .before .before .before .before .before .before .before .before .before .before .before .before .before .args) .ranking)) 0 (readers ((c .before .before .before .before .before .before .before .before .before .before .before .before .before .before .before .before .args) .stream .now) (ranks ((c .before .before .before .before .before .before .before .before .before .before .before .before .before .before .before .before .args) .ranking)) ((c .before .before .before .before .before .before .before .before .before .before .before .before .before .before .before .before .args) .g)) (hold 0 0 none) again ((c .before .before .before .before .before .before .before .before .before .before .before .d) .given .0 .1 .0) ((c .before .before .before .before .before .before .before .before .before .before .before .before .before .before .before .before .args) .nodes .now) ((c .before .before .before .before .before .before .before .before .before .before .before .before .before .before .before .before .args) .used) 0 (((c .before .before .before .before .before .before .before .before .before .before .before .before .before .before .before .before .pre) .1 .0) .formed) (omega (arith, ((c .before .before .before .before .before .before .before .before .before .before .before .before .before .before .before .before .pre) .1 .0) .room, f1 .later)) ((sym ((c .before .before .before .before .before .before .before .before .before .expect-name) .ensures)) ∙ (c .before .before .before .before .before .before .before .n) .given .1) in
     let f3 = both (read ((c .before .before .before .before .before .before .before .before .before .before .before .before .before .before .before .before .args) .stream .now) (ranks ((c .before .before .before .before .before .before .before .before .before .before .before .before .before .before .before .before .args) .ranking)) 0 (readers ((c .before .before .before .before .before .before .before .before .before .before .before .before .before .before .before .before .args) .stream .now) (ranks ((c .before .before .before .before .before .before .before .before .before .before .before .before .before .before .before .before .args) .ranking)) ((c .before .before .before .before .before .before .before .before .before .before .before .before .before .before .before .before .args) .g)) (hold 0 0 none) named again) f1 f2 (omega arith) in
     let l = leads-is _ f3 in
-    let no = (c .before .match4) .rest .0 .0 .1 in
-    let e1 = next-out ((c .before .before .before .before .before .before .before .before .before .before .before .before .before .before .before .before .args) .stream .now) (ranks ((c .before .before .before .before .before .before .before .before .before .before .before .before .before .before .before .before .args) .ranking)) 0 (readers ((c .before .before .before .before .before .before .before .before .before .before .before .before .before .before .before .before .args) .stream .now) (ranks ((c .before .before .before .before .before .before .before .before .before .before .before .before .before .before .before .before .args) .ranking)) ((c .before .before .before .before .before .before .before .before .before .before .before .before .before .before .before .before .args) .g)) (hold (((c .before .before .before .before .before .before .before .before .before .before .before .before .before .before .before .before .args) .c) .place) (((c .before .before .before .before .before .before .before .n) .given .0 .1 .0) .place) (f3 .trees)) (loop ((c .before .before .before .before .before .before .before .before .before .before .before .before .before .before .before .before .args) .stream .now) (length ((c .before .before .before .before .before .before .before .before .before .before .before .before .before .before .before .before .args) .stream .now)) (read ((c .before .before .before .before .before .before .before .before .before .before .before .before .before .before .before .before .args) .stream .now) (ranks ((c .before .before .before .before .before .before .before .before .before .before .before .before .before .before .before .before .args) .ranking)) 0 (readers ((c .before .before .before .before .before .before .before .before .before .before .before .before .before .before .before .before .args) .stream .now) (ranks ((c .before .before .before .before .before .before .before .before .before .before .before .before .before .before .before .before .args) .ranking)) ((c .before .before .before .before .before .before .before .before .before .before .before .before .before .before .before .before .args) .g)) (hold (((c .before .before .before .before .before .before .before .before .before .before .before .before .before .before .before .before .args) .c) .place) (((c .before .before .before .before .before .before .before .n) .given .0 .1 .0) .place) (f3 .trees)) (on next (37 ∷ []) (node 6 back opening P.numeric) (on next (48 ∷ 10 ∷ []) (node 7 back opening P.generic) (refuse 64))))) ((c .before .before .before .before .before .before .before .n) .given .0 .1 .0) (37 ∷ []) (node 6 back opening P.numeric) (on next (48 ∷ 10 ∷ []) (node 7 back opening P.generic) (refuse 64)) (sym ((c .before .before .before .before .before .get-next) .ensures) ∙ (c .before .before .before .t) .given .1) (other no) in
-    let e2 = next-out ((c .before .before .before .before .before .before .before .before .before .before .before .before .before .before .before .before .args) .stream .now) (ranks ((c .before .before .before .before .before .before .before .before .before .before .before .before .before .before .before .before .args) .ranking)) 0 (readers ((c .before .before .before .before .before .before .before .before .before .before .before .before .before .before .before .before .args) .stream .now) (ranks ((c .before .before .before .before .before .before .before .before .before .before .before .before .before .before .before .before .args) .ranking)) ((c .before .before .before .before .before .before .before .before .before .before .before .before .before .before .before .before .args) .g)) (hold (((c .before .before .before .before .before .before .before .before .before .before .before .before .before .before .before .before .args) .c) .place) (((c .before .before .before .before .before .before .before .n) .given .0 .1 .0) .place) (f3 .trees)) (loop ((c .before .before .before .before .before .before .before .before .before .before .before .before .before .before .before .before .args) .stream .now) (length ((c .before .before .before .before .before .before .before .before .before .before .before .before .before .before .before .before .args) .stream .now)) (read ((c .before .before .before .before .before .before .before .before .before .before .before .before .before .before .before .before .args) .stream .now) (ranks ((c .before .before .before .before .before .before .before .before .before .before .before .before .before .before .before .before .args) .ranking)) 0 (readers ((c .before .before .before .before .before .before .before .before .before .before .before .before .before .before .before .before .args) .stream .now) (ranks ((c .before .before .before .before .before .before .before .before .before .before .before .before .before .before .before .before .args) .ranking)) ((c .before .before .before .before .before .before .before .before .before .before .before .before .before .before .before .before .args) .g)) (hold (((c .before .before .before .before .before .before .before .before .before .before .before .before .before .before .before .before .args) .c) .place) (((c .before .before .before .before .before .before .before .n) .given .0 .1 .0) .place) (f3 .trees)) (on next (37 ∷ []) (node 6 back opening P.numeric) (on next (48 ∷ 10 ∷ []) (node 7 back opening P.generic) (refuse 64))))) ((c .before .before .before .t) .given .0 .1 .0) (48 ∷ 10 ∷ []) (node 7 back opening P.generic) (refuse 64) (got-again ((c .before .before .before .before .before .before .before .before .before .before .before .before .before .before .before .before .args) .stream .now) ((c .before .before .before .before .before .before .before .n) .given .0 .1 .0) (sym ((c .before .before .before .before .before .get-next) .ensures) ∙ (c .before .before .before .t) .given .1)) (not-among (10 ∷ []) ((c .before .match4) .rest .0 .1) (other ((c .before .match4) .rest .1))) in
-    l ∙ e1 ∙ e2 ∙ refused ((c .before .before .before .before .before .before .before .before .before .before .before .before .before .before .before .before .args) .stream .now) (ranks ((c .before .before .before .before .before .before .before .before .before .before .before .before .before .before .before .before .args) .ranking)) 0 (readers ((c .before .before .before .before .before .before .before .before .before .before .before .before .before .before .before .before .args) .stream .now) (ranks ((c .before .before .before .before .before .before .before .before .before .before .before .before .before .before .before .before .args) .ranking)) ((c .before .before .before .before .before .before .before .before .before .before .before .before .before .before .before .before .args) .g)) (hold (((c .before .before .before .before .before .before .before .before .before .before .before .before .before .before .before .before .args) .c) .place) (((c .before .before .before .before .before .before .before .n) .given .0 .1 .0) .place) (f3 .trees)) (loop ((c .before .before .before .before .before .before .before .before .before .before .before .before .before .before .before .before .args) .stream .now) (length ((c .before .before .before .before .before .before .before .before .before .before .before .before .before .before .before .before .args) .stream .now)) (read ((c .before .before .before .before .before .before .before .before .before .before .before .before .before .before .before .before .args) .stream .now) (ranks ((c .before .before .before .before .before .before .before .before .before .before .before .before .before .before .before .before .args) .ranking)) 0 (readers ((c .before .before .before .before .before .before .before .before .before .before .before .before .before .before .before .before .args) .stream .now) (ranks ((c .before .before .before .before .before .before .before .before .before .before .before .before .before .before .before .before .args) .ranking)) ((c .before .before .before .before .before .before .before .before .before .before .before .before .before .before .before .before .args) .g)) (hold (((c .before .before .before .before .before .before .before .before .before .before .before .before .before .before .before .before .args) .c) .place) (((c .before .before .before .before .before .before .before .n) .given .0 .1 .0) .place) (f3 .trees)) (on next (37 ∷ []) (node 6 back opening P.numeric) (on next (48 ∷ 10 ∷ []) (node 7 back opening P.generic) (refuse 64))))) ((c .before .before .before .before .before .before .before .n) .given .0 .1 .0) 64 (sym ((c .before .before .before .before .before .get-next) .ensures) ∙ (c .before .before .before .t) .given .1) ∙ sym (ap fail ((c .refuse) .ensures))
+    let e1 = by-others ((c .before .before .before .before .before .before .before .before .before .before .before .before .before .before .before .before .args) .stream .now) (ranks ((c .before .before .before .before .before .before .before .before .before .before .before .before .before .before .before .before .args) .ranking)) 0 (readers ((c .before .before .before .before .before .before .before .before .before .before .before .before .before .before .before .before .args) .stream .now) (ranks ((c .before .before .before .before .before .before .before .before .before .before .before .before .before .before .before .before .args) .ranking)) ((c .before .before .before .before .before .before .before .before .before .before .before .before .before .before .before .before .args) .g)) (hold (((c .before .before .before .before .before .before .before .before .before .before .before .before .before .before .before .before .args) .c) .place) (((c .before .before .before .before .before .before .before .n) .given .0 .1 .0) .place) (f3 .trees)) (loop ((c .before .before .before .before .before .before .before .before .before .before .before .before .before .before .before .before .args) .stream .now) (length ((c .before .before .before .before .before .before .before .before .before .before .before .before .before .before .before .before .args) .stream .now)) (read ((c .before .before .before .before .before .before .before .before .before .before .before .before .before .before .before .before .args) .stream .now) (ranks ((c .before .before .before .before .before .before .before .before .before .before .before .before .before .before .before .before .args) .ranking)) 0 (readers ((c .before .before .before .before .before .before .before .before .before .before .before .before .before .before .before .before .args) .stream .now) (ranks ((c .before .before .before .before .before .before .before .before .before .before .before .before .before .before .before .before .args) .ranking)) ((c .before .before .before .before .before .before .before .before .before .before .before .before .before .before .before .before .args) .g)) (hold (((c .before .before .before .before .before .before .before .before .before .before .before .before .before .before .before .before .args) .c) .place) (((c .before .before .before .before .before .before .before .n) .given .0 .1 .0) .place) (f3 .trees)) (37 ⇒ (node 6 back opening P.numeric) ∣ (on next (48 ∷ 10 ∷ []) (node 7 back opening P.generic) (refuse 64))))) ((c .before .before .before .before .before .before .before .n) .given .0 .1 .0) (37, (node 6 back opening P.numeric)) [] (on next (48 ∷ 10 ∷ []) (node 7 back opening P.generic) (refuse 64)) (sym ((c .before .before .before .before .before .get-next) .ensures) ∙ (c .before .before .before .t) .given .1) ((c .before .match4) .rest .0 .0 .1) in
+    let e2 = next-out ((c .before .before .before .before .before .before .before .before .before .before .before .before .before .before .before .before .args) .stream .now) (ranks ((c .before .before .before .before .before .before .before .before .before .before .before .before .before .before .before .before .args) .ranking)) 0 (readers ((c .before .before .before .before .before .before .before .before .before .before .before .before .before .before .before .before .args) .stream .now) (ranks ((c .before .before .before .before .before .before .before .before .before .before .before .before .before .before .before .before .args) .ranking)) ((c .before .before .before .before .before .before .before .before .before .before .before .before .before .before .before .before .args) .g)) (hold (((c .before .before .before .before .before .before .before .before .before .before .before .before .before .before .before .before .args) .c) .place) (((c .before .before .before .before .before .before .before .n) .given .0 .1 .0) .place) (f3 .trees)) (loop ((c .before .before .before .before .before .before .before .before .before .before .before .before .before .before .before .before .args) .stream .now) (length ((c .before .before .before .before .before .before .before .before .before .before .before .before .before .before .before .before .args) .stream .now)) (read ((c .before .before .before .before .before .before .before .before .before .before .before .before .before .before .before .before .args) .stream .now) (ranks ((c .before .before .before .before .before .before .before .before .before .before .before .before .before .before .before .before .args) .ranking)) 0 (readers ((c .before .before .before .before .before .before .before .before .before .before .before .before .before .before .before .before .args) .stream .now) (ranks ((c .before .before .before .before .before .before .before .before .before .before .before .before .before .before .before .before .args) .ranking)) ((c .before .before .before .before .before .before .before .before .before .before .before .before .before .before .before .before .args) .g)) (hold (((c .before .before .before .before .before .before .before .before .before .before .before .before .before .before .before .before .args) .c) .place) (((c .before .before .before .before .before .before .before .n) .given .0 .1 .0) .place) (f3 .trees)) (37 ⇒ (node 6 back opening P.numeric) ∣ (on next (48 ∷ 10 ∷ []) (node 7 back opening P.generic) (refuse 64))))) ((c .before .before .before .t) .given .0 .1 .0) (48 ∷ 10 ∷ []) (node 7 back opening P.generic) (refuse 64) (got-again ((c .before .before .before .before .before .before .before .before .before .before .before .before .before .before .before .before .args) .stream .now) ((c .before .before .before .before .before .before .before .n) .given .0 .1 .0) (sym ((c .before .before .before .before .before .get-next) .ensures) ∙ (c .before .before .before .t) .given .1)) (nor (((c .before .before .before .t) .given .0 .0) .kind) (48 ∷ 10 ∷ []) ((c .before .match4) .rest .0 .1) ((c .before .match4) .rest .1)) in
+    l ∙ e1 ∙ e2 ∙ refused ((c .before .before .before .before .before .before .before .before .before .before .before .before .before .before .before .before .args) .stream .now) (ranks ((c .before .before .before .before .before .before .before .before .before .before .before .before .before .before .before .before .args) .ranking)) 0 (readers ((c .before .before .before .before .before .before .before .before .before .before .before .before .before .before .before .before .args) .stream .now) (ranks ((c .before .before .before .before .before .before .before .before .before .before .before .before .before .before .before .before .args) .ranking)) ((c .before .before .before .before .before .before .before .before .before .before .before .before .before .before .before .before .args) .g)) (hold (((c .before .before .before .before .before .before .before .before .before .before .before .before .before .before .before .before .args) .c) .place) (((c .before .before .before .before .before .before .before .n) .given .0 .1 .0) .place) (f3 .trees)) (loop ((c .before .before .before .before .before .before .before .before .before .before .before .before .before .before .before .before .args) .stream .now) (length ((c .before .before .before .before .before .before .before .before .before .before .before .before .before .before .before .before .args) .stream .now)) (read ((c .before .before .before .before .before .before .before .before .before .before .before .before .before .before .before .before .args) .stream .now) (ranks ((c .before .before .before .before .before .before .before .before .before .before .before .before .before .before .before .before .args) .ranking)) 0 (readers ((c .before .before .before .before .before .before .before .before .before .before .before .before .before .before .before .before .args) .stream .now) (ranks ((c .before .before .before .before .before .before .before .before .before .before .before .before .before .before .before .before .args) .ranking)) ((c .before .before .before .before .before .before .before .before .before .before .before .before .before .before .before .before .args) .g)) (hold (((c .before .before .before .before .before .before .before .before .before .before .before .before .before .before .before .before .args) .c) .place) (((c .before .before .before .before .before .before .before .n) .given .0 .1 .0) .place) (f3 .trees)) (37 ⇒ (node 6 back opening P.numeric) ∣ (on next (48 ∷ 10 ∷ []) (node 7 back opening P.generic) (refuse 64))))) ((c .before .before .before .before .before .before .before .n) .given .0 .1 .0) 64 (sym ((c .before .before .before .before .before .get-next) .ensures) ∙ (c .before .before .before .t) .given .1) ∙ sym (ap fail ((c .refuse) .ensures))

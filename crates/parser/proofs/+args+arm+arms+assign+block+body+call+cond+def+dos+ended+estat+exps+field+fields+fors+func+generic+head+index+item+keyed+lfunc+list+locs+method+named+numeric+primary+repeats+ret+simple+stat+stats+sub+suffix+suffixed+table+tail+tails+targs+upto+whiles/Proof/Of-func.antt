@@ -24,10 +24,9 @@ use Rattle.grammar.specs.Productions.{nameleaf}
 use Rattle.parser.specs.Contract.{again}
 use Rattle.stream.proofs.Words.{few}
 use Rattle.parser.proofs.Steps.{took-kind}
-use Rattle.parser.proofs.Kit.{alter, revalue, kept, stop, past, both, over}
+use Rattle.parser.proofs.Kit.{then-assoc, kept, ready-at, alter, revalue, stop, past, both, over}
 use Rattle.parser.proofs.Tokens.{ready-after, word-fail, word-fine}
 use Rattle.grammar.specs.Productions.{funcbody, functionstat}
-use Rattle.parser.proofs.Grouped.{then-assoc}
 
 pub func-expect-next-requires : (t : ℕ) → func-lts.Need-expect-next-requires (
   expect-next-reads.Asked,
@@ -112,7 +111,7 @@ pub func-name-requires : (t : ℕ) → func-lts.Need-name-requires (
   close-reads.Asked,
   close-reads.Learnt,
 ) (func-at t) func.Post
-func-name-requires t c κs = ready-after (((c .before .before .before .before .before .before .before .args) .used) + 1) 3 (((c .before .before .before .before .before .before .before .pre) .1 .0) .formed) (took-kind ((c .before .before .before .before .before .before .before .args) .stream .now) ((c .before .before .before .before .before .before .before .args) .c) 7 ((sym ((c .before .before .before .before .expect-next) .ensures)) ∙ (c .before .before .d) .given .1) .0) (omega (arith, ((c .before .before .before .before .before .before .before .pre) .1 .0) .room))
+func-name-requires t c κs = ready-after (((c .before .before .before .before .before .before .before .pre) .1 .0) .formed) (took-kind ((c .before .before .before .before .before .before .before .args) .stream .now) ((c .before .before .before .before .before .before .before .args) .c) 7 ((sym ((c .before .before .before .before .expect-next) .ensures)) ∙ (c .before .before .d) .given .1)) (omega (arith, ((c .before .before .before .before .before .before .before .pre) .1 .0) .room))
 
 pub func-enum-known-e-2 : (t : ℕ) → func-lts.Need-enum-known-e-2 (
   expect-next-reads.Asked,
@@ -156,7 +155,7 @@ pub func-fieldnames-requires : (t : ℕ) → func-lts.Need-fieldnames-requires (
 ) (func-at t) func.Post
 func-fieldnames-requires t c κs =
     let f2 = rw ((c .before .before .e3) .given .1) at ((c .before .before .before .before .before .before .name) .ensures ((c .before .before .before .before .before .before .before .before .before .before .before .before .before .before .args) .ranking) ((c .before .before .before .before .before .before .before .before .before .before .before .before .before .before .args) .g)) in
-    record { formed = ((c .before .before .before .before .before .before .before .before .before .before .before .before .before .before .pre) .1 .0) .formed; at = f2 .at; room = f2 .room }
+    ready-at (((c .before .before .before .before .before .before .before .before .before .before .before .before .before .before .pre) .1 .0) .formed) f2 (omega arith)
 
 pub func-enum-known-e-4 : (t : ℕ) → func-lts.Need-enum-known-e-4 (
   expect-next-reads.Asked,
@@ -200,7 +199,7 @@ pub func-def-requires : (t : ℕ) → func-lts.Need-def-requires (
 ) (func-at t) func.Post
 func-def-requires t c κs =
     let f3 = (rw ((c .before .before .f) .given .1) at ((c .before .before .before .before .before .before .fieldnames) .ensures ((c .before .before .before .before .before .before .before .before .before .before .before .before .before .before .before .before .before .before .before .before .before .args) .ranking) ((c .before .before .before .before .before .before .before .before .before .before .before .before .before .before .before .before .before .before .before .before .before .args) .g))) .0 in
-    (omega (arith, (c .before .before .before .before .before .before .before .before .before .before .before .before .before .before .before .before .before .before .before .before .before .pre) .0), record { formed = ((c .before .before .before .before .before .before .before .before .before .before .before .before .before .before .before .before .before .before .before .before .before .pre) .1 .0) .formed; at = f3 .at; room = f3 .room })
+    (omega (arith, (c .before .before .before .before .before .before .before .before .before .before .before .before .before .before .before .before .before .before .before .before .before .pre) .0), ready-at (((c .before .before .before .before .before .before .before .before .before .before .before .before .before .before .before .before .before .before .before .before .before .pre) .1 .0) .formed) f3 (omega arith))
 
 pub func-enum-known-e-5 : (t : ℕ) → func-lts.Need-enum-known-e-5 (
   expect-next-reads.Asked,

@@ -14,7 +14,7 @@ use Prim.Native.Nat.{ℕ, _+_, _-_}
 use native.Mathlib.Omega.{arith}
 use Rattle.operators.specs.Ranks.{ranks}
 use Rattle.tree.specs.Forest.{none}
-use Rattle.grammar.specs.Reading.{read, hold, wrap, last}
+use Rattle.grammar.specs.Reading.{read, hold, wrap}
 use Rattle.grammar.specs.Levels.{readers}
 use Rattle.grammar.specs.Term.{unlined}
 use Rattle.parser.specs.Contract.{again}
@@ -22,7 +22,7 @@ use Rattle.stream.proofs.Words.{few}
 use Rattle.parser.proofs.Steps.{took-next}
 use Rattle.parser.proofs.Kit.{kept, stop, past, both, over}
 use Rattle.parser.proofs.Tokens.{ready-after, any-fail, any-fine}
-use Rattle.parser.proofs.Looks.{expect-meets}
+use Rattle.parser.proofs.Looks.{expect-after}
 
 pub index-take-next-requires : (t : ℕ) → index-lts.Need-take-next-requires (
   take-next-reads.Asked,
@@ -95,7 +95,7 @@ pub index-sub-requires : (t : ℕ) → index-lts.Need-sub-requires (
   close-reads.Asked,
   close-reads.Learnt,
 ) (index-at t) index.Post
-index-sub-requires t c κs = (omega (arith, (c .before .before .before .before .before .before .before .pre) .0), ready-after (((c .before .before .before .before .before .before .before .args) .used) + 1) 1 (((c .before .before .before .before .before .before .before .pre) .1) .formed) (took-next ((c .before .before .before .before .before .before .before .args) .stream .now) ((c .before .before .before .before .before .before .before .args) .c) ((sym ((c .before .before .before .before .take-next) .ensures)) ∙ (c .before .before .d) .given .1)) (omega (arith, ((c .before .before .before .before .before .before .before .pre) .1) .room)))
+index-sub-requires t c κs = (omega (arith, (c .before .before .before .before .before .before .before .pre) .0), ready-after (((c .before .before .before .before .before .before .before .pre) .1) .formed) (took-next ((c .before .before .before .before .before .before .before .args) .stream .now) ((c .before .before .before .before .before .before .before .args) .c) ((sym ((c .before .before .before .before .take-next) .ensures)) ∙ (c .before .before .d) .given .1)) (omega (arith, ((c .before .before .before .before .before .before .before .pre) .1) .room)))
 
 pub index-enum-known-e-2 : (t : ℕ) → index-lts.Need-enum-known-e-2 (
   take-next-reads.Asked,
@@ -170,7 +170,7 @@ pub index-close-requires : (t : ℕ) → index-lts.Need-close-requires (
 index-close-requires t c κs =
     let f1 = any-fine ((c .before .before .before .before .before .before .before .before .before .before .before .before .before .before .before .before .before .before .args) .stream .now) (ranks ((c .before .before .before .before .before .before .before .before .before .before .before .before .before .before .before .before .before .before .args) .ranking)) 0 (readers ((c .before .before .before .before .before .before .before .before .before .before .before .before .before .before .before .before .before .before .args) .stream .now) (ranks ((c .before .before .before .before .before .before .before .before .before .before .before .before .before .before .before .before .before .before .args) .ranking)) ((c .before .before .before .before .before .before .before .before .before .before .before .before .before .before .before .before .before .before .args) .g)) (hold 0 0 none) again ((c .before .before .before .before .before .before .before .before .before .before .before .before .before .before .before .before .before .before .args) .c) ((c .before .before .before .before .before .before .before .before .before .before .before .before .before .before .before .before .before .before .args) .nodes .now) (((c .before .before .before .before .before .before .before .before .before .before .before .before .before .before .before .before .before .before .args) .used) + 1) 0 (((c .before .before .before .before .before .before .before .before .before .before .before .before .before .before .before .before .before .before .pre) .1) .formed) (omega (arith, ((c .before .before .before .before .before .before .before .before .before .before .before .before .before .before .before .before .before .before .pre) .1) .room)) ((sym ((c .before .before .before .before .before .before .before .before .before .before .before .before .before .before .before .take-next) .ensures)) ∙ (c .before .before .before .before .before .before .before .before .before .before .before .before .before .d) .given .1) in
     let f2 = rw ((c .before .before .before .before .before .before .e3) .given .1) at ((c .before .before .before .before .before .before .before .before .before .before .sub) .ensures) in
-    let m3 = expect-meets ((c .before .before .before .before .before .before .before .before .before .before .before .before .before .before .before .before .before .before .args) .stream .now) (ranks ((c .before .before .before .before .before .before .before .before .before .before .before .before .before .before .before .before .before .before .args) .ranking)) 0 (readers ((c .before .before .before .before .before .before .before .before .before .before .before .before .before .before .before .before .before .before .args) .stream .now) (ranks ((c .before .before .before .before .before .before .before .before .before .before .before .before .before .before .before .before .before .before .args) .ranking)) ((c .before .before .before .before .before .before .before .before .before .before .before .before .before .before .before .before .before .before .args) .g)) (hold 0 0 none) again ((c .before .before .before .before .before .before .e3) .given .0 .0) 52 refl refl (((c .before .before .before .before .before .before .before .before .before .before .before .before .before .before .before .before .before .before .pre) .1) .formed) ((c .before .before .before .before .before .before .before .before .before .before .sub) .last .1 .0) ((c .before .before .before .before .before .before .e3) .given .0 .1 .0) 0 (omega (arith, f2 .room)) ((c .before .before .before .before .expect) .result) ((c .before .before .before .before .expect) .ensures) in
+    let m3 = expect-after ((c .before .before .before .before .before .before .before .before .before .before .before .before .before .before .before .before .before .before .args) .stream .now) (ranks ((c .before .before .before .before .before .before .before .before .before .before .before .before .before .before .before .before .before .before .args) .ranking)) 0 (readers ((c .before .before .before .before .before .before .before .before .before .before .before .before .before .before .before .before .before .before .args) .stream .now) (ranks ((c .before .before .before .before .before .before .before .before .before .before .before .before .before .before .before .before .before .before .args) .ranking)) ((c .before .before .before .before .before .before .before .before .before .before .before .before .before .before .before .before .before .before .args) .g)) (hold 0 0 none) again f2 52 refl refl (((c .before .before .before .before .before .before .before .before .before .before .before .before .before .before .before .before .before .before .pre) .1) .formed) 0 (omega arith) ((c .before .before .before .before .expect) .result) ((c .before .before .before .before .expect) .ensures) in
     let f3 = rw ((c .before .before .f) .given .1) at m3 in
     omega (arith, f2 .grown, f3 .grown)
 
@@ -227,7 +227,7 @@ unfolding read
 index-returns-3 t c =
     let f1 = any-fine ((c .before .before .before .before .before .before .before .before .before .before .before .before .before .before .before .before .before .args) .stream .now) (ranks ((c .before .before .before .before .before .before .before .before .before .before .before .before .before .before .before .before .before .args) .ranking)) 0 (readers ((c .before .before .before .before .before .before .before .before .before .before .before .before .before .before .before .before .before .args) .stream .now) (ranks ((c .before .before .before .before .before .before .before .before .before .before .before .before .before .before .before .before .before .args) .ranking)) ((c .before .before .before .before .before .before .before .before .before .before .before .before .before .before .before .before .before .args) .g)) (hold 0 0 none) again ((c .before .before .before .before .before .before .before .before .before .before .before .before .before .before .before .before .before .args) .c) ((c .before .before .before .before .before .before .before .before .before .before .before .before .before .before .before .before .before .args) .nodes .now) (((c .before .before .before .before .before .before .before .before .before .before .before .before .before .before .before .before .before .args) .used) + 1) 0 (((c .before .before .before .before .before .before .before .before .before .before .before .before .before .before .before .before .before .pre) .1) .formed) (omega (arith, ((c .before .before .before .before .before .before .before .before .before .before .before .before .before .before .before .before .before .pre) .1) .room)) ((sym ((c .before .before .before .before .before .before .before .before .before .before .before .before .before .before .take-next) .ensures)) ∙ (c .before .before .before .before .before .before .before .before .before .before .before .before .d) .given .1) in
     let f2 = rw ((c .before .before .before .before .before .e3) .given .1) at ((c .before .before .before .before .before .before .before .before .before .sub) .ensures) in
-    let m3 = expect-meets ((c .before .before .before .before .before .before .before .before .before .before .before .before .before .before .before .before .before .args) .stream .now) (ranks ((c .before .before .before .before .before .before .before .before .before .before .before .before .before .before .before .before .before .args) .ranking)) 0 (readers ((c .before .before .before .before .before .before .before .before .before .before .before .before .before .before .before .before .before .args) .stream .now) (ranks ((c .before .before .before .before .before .before .before .before .before .before .before .before .before .before .before .before .before .args) .ranking)) ((c .before .before .before .before .before .before .before .before .before .before .before .before .before .before .before .before .before .args) .g)) (hold 0 0 none) again ((c .before .before .before .before .before .e3) .given .0 .0) 52 refl refl (((c .before .before .before .before .before .before .before .before .before .before .before .before .before .before .before .before .before .pre) .1) .formed) ((c .before .before .before .before .before .before .before .before .before .sub) .last .1 .0) ((c .before .before .before .before .before .e3) .given .0 .1 .0) 0 (omega (arith, f2 .room)) ((c .before .before .before .expect) .result) ((c .before .before .before .expect) .ensures) in
+    let m3 = expect-after ((c .before .before .before .before .before .before .before .before .before .before .before .before .before .before .before .before .before .args) .stream .now) (ranks ((c .before .before .before .before .before .before .before .before .before .before .before .before .before .before .before .before .before .args) .ranking)) 0 (readers ((c .before .before .before .before .before .before .before .before .before .before .before .before .before .before .before .before .before .args) .stream .now) (ranks ((c .before .before .before .before .before .before .before .before .before .before .before .before .before .before .before .before .before .args) .ranking)) ((c .before .before .before .before .before .before .before .before .before .before .before .before .before .before .before .before .before .args) .g)) (hold 0 0 none) again f2 52 refl refl (((c .before .before .before .before .before .before .before .before .before .before .before .before .before .before .before .before .before .pre) .1) .formed) 0 (omega arith) ((c .before .before .before .expect) .result) ((c .before .before .before .expect) .ensures) in
     ap (wrap ((c .before .before .before .before .before .before .before .before .before .before .before .before .before .before .before .before .before .args) .stream .now) 33 unlined (((c .before .before .before .before .before .before .before .before .before .before .before .before .before .before .before .before .before .args) .c) .place)) (past _ f1 (past _ f2 (rw ((c .before .e4) .given .1) at m3)))
 
 pub index-same-length-3 : (t : ℕ) → index-lts.Need-same-length-3 (
@@ -256,6 +256,6 @@ unfolding read
 index-returns-4 t c =
     let f1 = any-fine ((c .before .before .before .before .before .before .before .before .before .before .before .before .before .before .before .before .before .before .before .before .before .args) .stream .now) (ranks ((c .before .before .before .before .before .before .before .before .before .before .before .before .before .before .before .before .before .before .before .before .before .args) .ranking)) 0 (readers ((c .before .before .before .before .before .before .before .before .before .before .before .before .before .before .before .before .before .before .before .before .before .args) .stream .now) (ranks ((c .before .before .before .before .before .before .before .before .before .before .before .before .before .before .before .before .before .before .before .before .before .args) .ranking)) ((c .before .before .before .before .before .before .before .before .before .before .before .before .before .before .before .before .before .before .before .before .before .args) .g)) (hold 0 0 none) again ((c .before .before .before .before .before .before .before .before .before .before .before .before .before .before .before .before .before .before .before .before .before .args) .c) ((c .before .before .before .before .before .before .before .before .before .before .before .before .before .before .before .before .before .before .before .before .before .args) .nodes .now) (((c .before .before .before .before .before .before .before .before .before .before .before .before .before .before .before .before .before .before .before .before .before .args) .used) + 1) 0 (((c .before .before .before .before .before .before .before .before .before .before .before .before .before .before .before .before .before .before .before .before .before .pre) .1) .formed) (omega (arith, ((c .before .before .before .before .before .before .before .before .before .before .before .before .before .before .before .before .before .before .before .before .before .pre) .1) .room)) ((sym ((c .before .before .before .before .before .before .before .before .before .before .before .before .before .before .before .before .before .before .take-next) .ensures)) ∙ (c .before .before .before .before .before .before .before .before .before .before .before .before .before .before .before .before .d) .given .1) in
     let f2 = rw ((c .before .before .before .before .before .before .before .before .before .e3) .given .1) at ((c .before .before .before .before .before .before .before .before .before .before .before .before .before .sub) .ensures) in
-    let m3 = expect-meets ((c .before .before .before .before .before .before .before .before .before .before .before .before .before .before .before .before .before .before .before .before .before .args) .stream .now) (ranks ((c .before .before .before .before .before .before .before .before .before .before .before .before .before .before .before .before .before .before .before .before .before .args) .ranking)) 0 (readers ((c .before .before .before .before .before .before .before .before .before .before .before .before .before .before .before .before .before .before .before .before .before .args) .stream .now) (ranks ((c .before .before .before .before .before .before .before .before .before .before .before .before .before .before .before .before .before .before .before .before .before .args) .ranking)) ((c .before .before .before .before .before .before .before .before .before .before .before .before .before .before .before .before .before .before .before .before .before .args) .g)) (hold 0 0 none) again ((c .before .before .before .before .before .before .before .before .before .e3) .given .0 .0) 52 refl refl (((c .before .before .before .before .before .before .before .before .before .before .before .before .before .before .before .before .before .before .before .before .before .pre) .1) .formed) ((c .before .before .before .before .before .before .before .before .before .before .before .before .before .sub) .last .1 .0) ((c .before .before .before .before .before .before .before .before .before .e3) .given .0 .1 .0) 0 (omega (arith, f2 .room)) ((c .before .before .before .before .before .before .before .expect) .result) ((c .before .before .before .before .before .before .before .expect) .ensures) in
+    let m3 = expect-after ((c .before .before .before .before .before .before .before .before .before .before .before .before .before .before .before .before .before .before .before .before .before .args) .stream .now) (ranks ((c .before .before .before .before .before .before .before .before .before .before .before .before .before .before .before .before .before .before .before .before .before .args) .ranking)) 0 (readers ((c .before .before .before .before .before .before .before .before .before .before .before .before .before .before .before .before .before .before .before .before .before .args) .stream .now) (ranks ((c .before .before .before .before .before .before .before .before .before .before .before .before .before .before .before .before .before .before .before .before .before .args) .ranking)) ((c .before .before .before .before .before .before .before .before .before .before .before .before .before .before .before .before .before .before .before .before .before .args) .g)) (hold 0 0 none) again f2 52 refl refl (((c .before .before .before .before .before .before .before .before .before .before .before .before .before .before .before .before .before .before .before .before .before .pre) .1) .formed) 0 (omega arith) ((c .before .before .before .before .before .before .before .expect) .result) ((c .before .before .before .before .before .before .before .expect) .ensures) in
     let f3 = rw ((c .before .before .before .before .before .f) .given .1) at m3 in
     rw ((c .before .before .close) .ensures .0) (over 33 unlined (((c .before .before .before .before .before .before .before .before .before .before .before .before .before .before .before .before .before .before .before .before .before .args) .c) .place) 0 (both _ f1 (both _ f2 f3 (omega arith)) (omega arith)) ((c .before .before .close) .ensures .1) refl)

@@ -19,10 +19,10 @@ use Rattle.grammar.specs.Term.{unlined}
 use Rattle.parser.specs.Contract.{again}
 use Rattle.stream.proofs.Words.{few}
 use Rattle.parser.proofs.Steps.{took-name}
-use Rattle.parser.proofs.Kit.{revalue, kept, stop, past, both, over}
-use Rattle.parser.proofs.Tokens.{any-fail, name-fail, any-fine, name-fine, weigh-fine}
-use Rattle.grammar.specs.Productions.{args as args′}
+use Rattle.parser.proofs.Kit.{kept, ready-at, revalue, stop, past, both, over}
+use Rattle.parser.proofs.Tokens.{paid, any-fail, name-fail, any-fine, name-fine, weigh-fine}
 use Rattle.parser.proofs.Weights.{args-light, light-fine, light-fail}
+use Rattle.grammar.specs.Productions.{args as args′}
 
 pub method-take-next-requires : (t : ℕ) → method-lts.Need-take-next-requires (
   take-next-reads.Asked,
@@ -134,9 +134,9 @@ pub method-args-requires : (t : ℕ) → method-lts.Need-args-requires (
 method-args-requires t c κs =
     let f1 = any-fine ((c .before .before .before .before .before .before .before .before .before .before .before .args) .stream .now) (ranks ((c .before .before .before .before .before .before .before .before .before .before .before .args) .ranking)) 0 (readers ((c .before .before .before .before .before .before .before .before .before .before .before .args) .stream .now) (ranks ((c .before .before .before .before .before .before .before .before .before .before .before .args) .ranking)) ((c .before .before .before .before .before .before .before .before .before .before .before .args) .g)) (hold 0 0 none) again ((c .before .before .before .before .before .before .before .before .before .before .before .args) .c) ((c .before .before .before .before .before .before .before .before .before .before .before .args) .nodes .now) (((c .before .before .before .before .before .before .before .before .before .before .before .args) .used) + 1) 0 (((c .before .before .before .before .before .before .before .before .before .before .before .pre) .1) .formed) (omega (arith, ((c .before .before .before .before .before .before .before .before .before .before .before .pre) .1) .room)) ((sym ((c .before .before .before .before .before .before .before .before .take-next) .ensures)) ∙ (c .before .before .before .before .before .before .d) .given .1) in
     let f2 = name-fine ((c .before .before .before .before .before .before .before .before .before .before .before .args) .stream .now) (ranks ((c .before .before .before .before .before .before .before .before .before .before .before .args) .ranking)) 0 (readers ((c .before .before .before .before .before .before .before .before .before .before .before .args) .stream .now) (ranks ((c .before .before .before .before .before .before .before .before .before .before .before .args) .ranking)) ((c .before .before .before .before .before .before .before .before .before .before .before .args) .g)) (hold 0 0 none) again ((c .before .before .before .before .before .before .d) .given .0 .1 .0) ((c .before .before .before .before .before .before .before .before .before .before .before .args) .nodes .now) (((c .before .before .before .before .before .before .before .before .before .before .before .args) .used) + 1) 0 (((c .before .before .before .before .before .before .before .before .before .before .before .pre) .1) .formed) (omega (arith, f1 .room)) ((sym ((c .before .before .before .before .expect-name) .ensures)) ∙ (c .before .before .t) .given .1) in
-    let f3 = weigh-fine ((c .before .before .before .before .before .before .before .before .before .before .before .args) .stream .now) (ranks ((c .before .before .before .before .before .before .before .before .before .before .before .args) .ranking)) 0 (readers ((c .before .before .before .before .before .before .before .before .before .before .before .args) .stream .now) (ranks ((c .before .before .before .before .before .before .before .before .before .before .before .args) .ranking)) ((c .before .before .before .before .before .before .before .before .before .before .before .args) .g)) (hold 0 0 none) again ((c .before .before .before .before .before .before .d) .given .0 .1 .0) ((c .before .before .before .before .before .before .before .before .before .before .before .args) .nodes .now) (((c .before .before .before .before .before .before .before .before .before .before .before .args) .used) + 1) 0 (took-name ((c .before .before .before .before .before .before .before .before .before .before .before .args) .stream .now) ((c .before .before .before .before .before .before .d) .given .0 .1 .0) ((sym ((c .before .before .before .before .expect-name) .ensures)) ∙ (c .before .before .t) .given .1)) (f2 .at) (f2 .room) in
+    let f3 = weigh-fine ((c .before .before .before .before .before .before .before .before .before .before .before .args) .stream .now) (ranks ((c .before .before .before .before .before .before .before .before .before .before .before .args) .ranking)) 0 (readers ((c .before .before .before .before .before .before .before .before .before .before .before .args) .stream .now) (ranks ((c .before .before .before .before .before .before .before .before .before .before .before .args) .ranking)) ((c .before .before .before .before .before .before .before .before .before .before .before .args) .g)) (hold 0 0 none) again ((c .before .before .t) .given .0 .1 .0) ((c .before .before .before .before .before .before .before .before .before .before .before .args) .nodes .now) (((c .before .before .before .before .before .before .before .before .before .before .before .args) .used) + 1) 0 (paid (took-name ((c .before .before .before .before .before .before .before .before .before .before .before .args) .stream .now) ((c .before .before .before .before .before .before .d) .given .0 .1 .0) ((sym ((c .before .before .before .before .expect-name) .ensures)) ∙ (c .before .before .t) .given .1))) (f2 .at) (f2 .room) in
     let l = args-light ((c .before .before .before .before .before .before .before .before .before .before .before .args) .stream .now) ((c .before .before .before .before .before .before .before .before .before .before .before .args) .ranking) 0 ((c .before .before .before .before .before .before .before .before .before .before .before .args) .g) (hold 0 0 none) again ((c .before .before .t) .given .0 .1 .0) in
-    (omega (arith, (c .before .before .before .before .before .before .before .before .before .before .before .pre) .0), record { formed = ((c .before .before .before .before .before .before .before .before .before .before .before .pre) .1) .formed; at = f2 .at; room = omega (arith, f2 .room) })
+    (omega (arith, (c .before .before .before .before .before .before .before .before .before .before .before .pre) .0), ready-at (((c .before .before .before .before .before .before .before .before .before .before .before .pre) .1) .formed) f2 (omega arith))
 
 pub method-enum-known-e-3 : (t : ℕ) → method-lts.Need-enum-known-e-3 (
   take-next-reads.Asked,
@@ -217,7 +217,7 @@ unfolding read
 method-returns-3 t c =
     let f1 = any-fine ((c .before .before .before .before .before .before .before .before .before .before .before .before .before .before .before .before .before .args) .stream .now) (ranks ((c .before .before .before .before .before .before .before .before .before .before .before .before .before .before .before .before .before .args) .ranking)) 0 (readers ((c .before .before .before .before .before .before .before .before .before .before .before .before .before .before .before .before .before .args) .stream .now) (ranks ((c .before .before .before .before .before .before .before .before .before .before .before .before .before .before .before .before .before .args) .ranking)) ((c .before .before .before .before .before .before .before .before .before .before .before .before .before .before .before .before .before .args) .g)) (hold 0 0 none) again ((c .before .before .before .before .before .before .before .before .before .before .before .before .before .before .before .before .before .args) .c) ((c .before .before .before .before .before .before .before .before .before .before .before .before .before .before .before .before .before .args) .nodes .now) (((c .before .before .before .before .before .before .before .before .before .before .before .before .before .before .before .before .before .args) .used) + 1) 0 (((c .before .before .before .before .before .before .before .before .before .before .before .before .before .before .before .before .before .pre) .1) .formed) (omega (arith, ((c .before .before .before .before .before .before .before .before .before .before .before .before .before .before .before .before .before .pre) .1) .room)) ((sym ((c .before .before .before .before .before .before .before .before .before .before .before .before .before .before .take-next) .ensures)) ∙ (c .before .before .before .before .before .before .before .before .before .before .before .before .d) .given .1) in
     let f2 = name-fine ((c .before .before .before .before .before .before .before .before .before .before .before .before .before .before .before .before .before .args) .stream .now) (ranks ((c .before .before .before .before .before .before .before .before .before .before .before .before .before .before .before .before .before .args) .ranking)) 0 (readers ((c .before .before .before .before .before .before .before .before .before .before .before .before .before .before .before .before .before .args) .stream .now) (ranks ((c .before .before .before .before .before .before .before .before .before .before .before .before .before .before .before .before .before .args) .ranking)) ((c .before .before .before .before .before .before .before .before .before .before .before .before .before .before .before .before .before .args) .g)) (hold 0 0 none) again ((c .before .before .before .before .before .before .before .before .before .before .before .before .d) .given .0 .1 .0) ((c .before .before .before .before .before .before .before .before .before .before .before .before .before .before .before .before .before .args) .nodes .now) (((c .before .before .before .before .before .before .before .before .before .before .before .before .before .before .before .before .before .args) .used) + 1) 0 (((c .before .before .before .before .before .before .before .before .before .before .before .before .before .before .before .before .before .pre) .1) .formed) (omega (arith, f1 .room)) ((sym ((c .before .before .before .before .before .before .before .before .before .before .expect-name) .ensures)) ∙ (c .before .before .before .before .before .before .before .before .t) .given .1) in
-    let f3 = weigh-fine ((c .before .before .before .before .before .before .before .before .before .before .before .before .before .before .before .before .before .args) .stream .now) (ranks ((c .before .before .before .before .before .before .before .before .before .before .before .before .before .before .before .before .before .args) .ranking)) 0 (readers ((c .before .before .before .before .before .before .before .before .before .before .before .before .before .before .before .before .before .args) .stream .now) (ranks ((c .before .before .before .before .before .before .before .before .before .before .before .before .before .before .before .before .before .args) .ranking)) ((c .before .before .before .before .before .before .before .before .before .before .before .before .before .before .before .before .before .args) .g)) (hold 0 0 none) again ((c .before .before .before .before .before .before .before .before .before .before .before .before .d) .given .0 .1 .0) ((c .before .before .before .before .before .before .before .before .before .before .before .before .before .before .before .before .before .args) .nodes .now) (((c .before .before .before .before .before .before .before .before .before .before .before .before .before .before .before .before .before .args) .used) + 1) 0 (took-name ((c .before .before .before .before .before .before .before .before .before .before .before .before .before .before .before .before .before .args) .stream .now) ((c .before .before .before .before .before .before .before .before .before .before .before .before .d) .given .0 .1 .0) ((sym ((c .before .before .before .before .before .before .before .before .before .before .expect-name) .ensures)) ∙ (c .before .before .before .before .before .before .before .before .t) .given .1)) (f2 .at) (f2 .room) in
+    let f3 = weigh-fine ((c .before .before .before .before .before .before .before .before .before .before .before .before .before .before .before .before .before .args) .stream .now) (ranks ((c .before .before .before .before .before .before .before .before .before .before .before .before .before .before .before .before .before .args) .ranking)) 0 (readers ((c .before .before .before .before .before .before .before .before .before .before .before .before .before .before .before .before .before .args) .stream .now) (ranks ((c .before .before .before .before .before .before .before .before .before .before .before .before .before .before .before .before .before .args) .ranking)) ((c .before .before .before .before .before .before .before .before .before .before .before .before .before .before .before .before .before .args) .g)) (hold 0 0 none) again ((c .before .before .before .before .before .before .before .before .t) .given .0 .1 .0) ((c .before .before .before .before .before .before .before .before .before .before .before .before .before .before .before .before .before .args) .nodes .now) (((c .before .before .before .before .before .before .before .before .before .before .before .before .before .before .before .before .before .args) .used) + 1) 0 (paid (took-name ((c .before .before .before .before .before .before .before .before .before .before .before .before .before .before .before .before .before .args) .stream .now) ((c .before .before .before .before .before .before .before .before .before .before .before .before .d) .given .0 .1 .0) ((sym ((c .before .before .before .before .before .before .before .before .before .before .expect-name) .ensures)) ∙ (c .before .before .before .before .before .before .before .before .t) .given .1))) (f2 .at) (f2 .room) in
     let l = args-light ((c .before .before .before .before .before .before .before .before .before .before .before .before .before .before .before .before .before .args) .stream .now) ((c .before .before .before .before .before .before .before .before .before .before .before .before .before .before .before .before .before .args) .ranking) 0 ((c .before .before .before .before .before .before .before .before .before .before .before .before .before .before .before .before .before .args) .g) (hold 0 0 none) again ((c .before .before .before .before .before .before .before .before .t) .given .0 .1 .0) in
     ap (wrap ((c .before .before .before .before .before .before .before .before .before .before .before .before .before .before .before .before .before .args) .stream .now) 35 unlined (((c .before .before .before .before .before .before .before .before .before .before .before .before .before .before .before .before .before .args) .c) .place)) (past _ f1 (past _ f2 (past (read ((c .before .before .before .before .before .before .before .before .before .before .before .before .before .before .before .before .before .args) .stream .now) (ranks ((c .before .before .before .before .before .before .before .before .before .before .before .before .before .before .before .before .before .args) .ranking)) 0 (readers ((c .before .before .before .before .before .before .before .before .before .before .before .before .before .before .before .before .before .args) .stream .now) (ranks ((c .before .before .before .before .before .before .before .before .before .before .before .before .before .before .before .before .before .args) .ranking)) ((c .before .before .before .before .before .before .before .before .before .before .before .before .before .before .before .before .before .args) .g)) (hold 0 0 none) (args′ 0) again) f3 (light-fail l (rw ((c .before .e3) .given .1) at ((c .before .before .before .before .before .args2) .ensures))))))
 
@@ -247,7 +247,7 @@ unfolding read
 method-returns-4 t c =
     let f1 = any-fine ((c .before .before .before .before .before .before .before .before .before .before .before .before .before .before .before .before .before .before .before .before .before .args) .stream .now) (ranks ((c .before .before .before .before .before .before .before .before .before .before .before .before .before .before .before .before .before .before .before .before .before .args) .ranking)) 0 (readers ((c .before .before .before .before .before .before .before .before .before .before .before .before .before .before .before .before .before .before .before .before .before .args) .stream .now) (ranks ((c .before .before .before .before .before .before .before .before .before .before .before .before .before .before .before .before .before .before .before .before .before .args) .ranking)) ((c .before .before .before .before .before .before .before .before .before .before .before .before .before .before .before .before .before .before .before .before .before .args) .g)) (hold 0 0 none) again ((c .before .before .before .before .before .before .before .before .before .before .before .before .before .before .before .before .before .before .before .before .before .args) .c) ((c .before .before .before .before .before .before .before .before .before .before .before .before .before .before .before .before .before .before .before .before .before .args) .nodes .now) (((c .before .before .before .before .before .before .before .before .before .before .before .before .before .before .before .before .before .before .before .before .before .args) .used) + 1) 0 (((c .before .before .before .before .before .before .before .before .before .before .before .before .before .before .before .before .before .before .before .before .before .pre) .1) .formed) (omega (arith, ((c .before .before .before .before .before .before .before .before .before .before .before .before .before .before .before .before .before .before .before .before .before .pre) .1) .room)) ((sym ((c .before .before .before .before .before .before .before .before .before .before .before .before .before .before .before .before .before .before .take-next) .ensures)) ∙ (c .before .before .before .before .before .before .before .before .before .before .before .before .before .before .before .before .d) .given .1) in
     let f2 = name-fine ((c .before .before .before .before .before .before .before .before .before .before .before .before .before .before .before .before .before .before .before .before .before .args) .stream .now) (ranks ((c .before .before .before .before .before .before .before .before .before .before .before .before .before .before .before .before .before .before .before .before .before .args) .ranking)) 0 (readers ((c .before .before .before .before .before .before .before .before .before .before .before .before .before .before .before .before .before .before .before .before .before .args) .stream .now) (ranks ((c .before .before .before .before .before .before .before .before .before .before .before .before .before .before .before .before .before .before .before .before .before .args) .ranking)) ((c .before .before .before .before .before .before .before .before .before .before .before .before .before .before .before .before .before .before .before .before .before .args) .g)) (hold 0 0 none) again ((c .before .before .before .before .before .before .before .before .before .before .before .before .before .before .before .before .d) .given .0 .1 .0) ((c .before .before .before .before .before .before .before .before .before .before .before .before .before .before .before .before .before .before .before .before .before .args) .nodes .now) (((c .before .before .before .before .before .before .before .before .before .before .before .before .before .before .before .before .before .before .before .before .before .args) .used) + 1) 0 (((c .before .before .before .before .before .before .before .before .before .before .before .before .before .before .before .before .before .before .before .before .before .pre) .1) .formed) (omega (arith, f1 .room)) ((sym ((c .before .before .before .before .before .before .before .before .before .before .before .before .before .before .expect-name) .ensures)) ∙ (c .before .before .before .before .before .before .before .before .before .before .before .before .t) .given .1) in
-    let f3 = weigh-fine ((c .before .before .before .before .before .before .before .before .before .before .before .before .before .before .before .before .before .before .before .before .before .args) .stream .now) (ranks ((c .before .before .before .before .before .before .before .before .before .before .before .before .before .before .before .before .before .before .before .before .before .args) .ranking)) 0 (readers ((c .before .before .before .before .before .before .before .before .before .before .before .before .before .before .before .before .before .before .before .before .before .args) .stream .now) (ranks ((c .before .before .before .before .before .before .before .before .before .before .before .before .before .before .before .before .before .before .before .before .before .args) .ranking)) ((c .before .before .before .before .before .before .before .before .before .before .before .before .before .before .before .before .before .before .before .before .before .args) .g)) (hold 0 0 none) again ((c .before .before .before .before .before .before .before .before .before .before .before .before .before .before .before .before .d) .given .0 .1 .0) ((c .before .before .before .before .before .before .before .before .before .before .before .before .before .before .before .before .before .before .before .before .before .args) .nodes .now) (((c .before .before .before .before .before .before .before .before .before .before .before .before .before .before .before .before .before .before .before .before .before .args) .used) + 1) 0 (took-name ((c .before .before .before .before .before .before .before .before .before .before .before .before .before .before .before .before .before .before .before .before .before .args) .stream .now) ((c .before .before .before .before .before .before .before .before .before .before .before .before .before .before .before .before .d) .given .0 .1 .0) ((sym ((c .before .before .before .before .before .before .before .before .before .before .before .before .before .before .expect-name) .ensures)) ∙ (c .before .before .before .before .before .before .before .before .before .before .before .before .t) .given .1)) (f2 .at) (f2 .room) in
+    let f3 = weigh-fine ((c .before .before .before .before .before .before .before .before .before .before .before .before .before .before .before .before .before .before .before .before .before .args) .stream .now) (ranks ((c .before .before .before .before .before .before .before .before .before .before .before .before .before .before .before .before .before .before .before .before .before .args) .ranking)) 0 (readers ((c .before .before .before .before .before .before .before .before .before .before .before .before .before .before .before .before .before .before .before .before .before .args) .stream .now) (ranks ((c .before .before .before .before .before .before .before .before .before .before .before .before .before .before .before .before .before .before .before .before .before .args) .ranking)) ((c .before .before .before .before .before .before .before .before .before .before .before .before .before .before .before .before .before .before .before .before .before .args) .g)) (hold 0 0 none) again ((c .before .before .before .before .before .before .before .before .before .before .before .before .t) .given .0 .1 .0) ((c .before .before .before .before .before .before .before .before .before .before .before .before .before .before .before .before .before .before .before .before .before .args) .nodes .now) (((c .before .before .before .before .before .before .before .before .before .before .before .before .before .before .before .before .before .before .before .before .before .args) .used) + 1) 0 (paid (took-name ((c .before .before .before .before .before .before .before .before .before .before .before .before .before .before .before .before .before .before .before .before .before .args) .stream .now) ((c .before .before .before .before .before .before .before .before .before .before .before .before .before .before .before .before .d) .given .0 .1 .0) ((sym ((c .before .before .before .before .before .before .before .before .before .before .before .before .before .before .expect-name) .ensures)) ∙ (c .before .before .before .before .before .before .before .before .before .before .before .before .t) .given .1))) (f2 .at) (f2 .room) in
     let l = args-light ((c .before .before .before .before .before .before .before .before .before .before .before .before .before .before .before .before .before .before .before .before .before .args) .stream .now) ((c .before .before .before .before .before .before .before .before .before .before .before .before .before .before .before .before .before .before .before .before .before .args) .ranking) 0 ((c .before .before .before .before .before .before .before .before .before .before .before .before .before .before .before .before .before .before .before .before .before .args) .g) (hold 0 0 none) again ((c .before .before .before .before .before .before .before .before .before .before .before .before .t) .given .0 .1 .0) in
     let f4 = light-fine l ((rw ((c .before .before .before .before .before .f) .given .1) at ((c .before .before .before .before .before .before .before .before .before .args2) .ensures)) .0) in
     rw ((c .before .before .close) .ensures .0) (over 35 unlined (((c .before .before .before .before .before .before .before .before .before .before .before .before .before .before .before .before .before .before .before .before .before .args) .c) .place) 0 (revalue (omega arith) (both _ f1 (both _ f2 (both (read ((c .before .before .before .before .before .before .before .before .before .before .before .before .before .before .before .before .before .before .before .before .before .args) .stream .now) (ranks ((c .before .before .before .before .before .before .before .before .before .before .before .before .before .before .before .before .before .before .before .before .before .args) .ranking)) 0 (readers ((c .before .before .before .before .before .before .before .before .before .before .before .before .before .before .before .before .before .before .before .before .before .args) .stream .now) (ranks ((c .before .before .before .before .before .before .before .before .before .before .before .before .before .before .before .before .before .before .before .before .before .args) .ranking)) ((c .before .before .before .before .before .before .before .before .before .before .before .before .before .before .before .before .before .before .before .before .before .args) .g)) (hold 0 0 none) (args′ 0) again) f3 f4 (omega arith)) (omega arith)) (omega arith))) ((c .before .before .close) .ensures .1) refl)

@@ -15,7 +15,7 @@ use Prim.Native.Nat.{ℕ, _+_, _-_}
 use native.Mathlib.Omega.{arith}
 use Rattle.operators.specs.Ranks.{ranks}
 use Rattle.tree.specs.Forest.{none}
-use Rattle.grammar.specs.Reading.{fine, read, hold, wrap, last}
+use Rattle.grammar.specs.Reading.{read, hold, wrap}
 use Rattle.grammar.specs.Levels.{readers}
 use Rattle.grammar.specs.Term.{opening}
 use Rattle.grammar.specs.Term.{any, _⨾_}
@@ -24,11 +24,10 @@ use Rattle.parser.specs.Contract.{again}
 use Rattle.parser.specs.Parts as P
 use Rattle.stream.proofs.Words.{few}
 use Rattle.parser.proofs.Steps.{took-next}
-use Rattle.parser.proofs.Kit.{alter, revalue, kept, weighs, stop, past, both, over}
-use Rattle.parser.proofs.Tokens.{ready-after, any-fail, any-fine}
-use Rattle.parser.proofs.Looks.{expect-meets}
+use Rattle.parser.proofs.Kit.{kept, ready-at, lower, revalue, stop, past, both, over}
+use Rattle.parser.proofs.Tokens.{ready-after, any-fail, any-fine, weigh-fine}
+use Rattle.parser.proofs.Looks.{expect-after}
 use Rattle.grammar.specs.Productions.{expr}
-use Rattle.parser.proofs.Grouped.{both-later}
 
 pub numeric-take-next-requires : (t : ℕ) → numeric-lts.Need-take-next-requires (
   take-next-reads.Asked,
@@ -86,10 +85,8 @@ pub numeric-returns : (t : ℕ) → numeric-lts.Need-returns (
 ) (numeric-at t) numeric.Post
 unfolding read
 numeric-returns t c =
-    let f0 = weighs {s = ((c .before .before .before .before .before .before .args) .stream .now)} ((c .before .before .before .before .before .before .args) .nodes .now) (((c .before .before .before .before .before .before .args) .used) + 1) 1 ((c .before .before .before .before .before .before .args) .name) ((c .before .before .before .before .before .before .args) .c) (((c .before .before .before .before .before .before .pre) .1 .0) .at) (omega (arith, ((c .before .before .before .before .before .before .pre) .1 .0) .room)) in
-    let q0 = ap (fine (((c .before .before .before .before .before .before .args) .c) .place) (((c .before .before .before .before .before .before .args) .c) .mark) none) (sym ((c .before .before .before .before .before .before .pre) .1 .2)) in
-    let g0 = alter q0 f0 in
-    ap (wrap ((c .before .before .before .before .before .before .args) .stream .now) 6 opening (((c .before .before .before .before .before .before .args) .c) .place - 2)) (past (read ((c .before .before .before .before .before .before .args) .stream .now) (ranks ((c .before .before .before .before .before .before .args) .ranking)) 0 (readers ((c .before .before .before .before .before .before .args) .stream .now) (ranks ((c .before .before .before .before .before .before .args) .ranking)) ((c .before .before .before .before .before .before .args) .g)) (hold 0 0 none) (any ⨾ expr ⨾ word 48 ⨾ P.upto) again) g0 (stop _ (any-fail ((c .before .before .before .before .before .before .args) .stream .now) (ranks ((c .before .before .before .before .before .before .args) .ranking)) 0 (readers ((c .before .before .before .before .before .before .args) .stream .now) (ranks ((c .before .before .before .before .before .before .args) .ranking)) ((c .before .before .before .before .before .before .args) .g)) (hold 0 0 none) again ((c .before .before .before .before .before .before .args) .c) ((sym ((c .before .before .before .take-next) .ensures)) ∙ (c .before .e) .given .1))))
+    let f0 = weigh-fine ((c .before .before .before .before .before .before .args) .stream .now) (ranks ((c .before .before .before .before .before .before .args) .ranking)) 0 (readers ((c .before .before .before .before .before .before .args) .stream .now) (ranks ((c .before .before .before .before .before .before .args) .ranking)) ((c .before .before .before .before .before .before .args) .g)) (hold 0 0 none) again ((c .before .before .before .before .before .before .args) .c) ((c .before .before .before .before .before .before .args) .nodes .now) (((c .before .before .before .before .before .before .args) .used) + 1) 1 ((c .before .before .before .before .before .before .pre) .1 .2) (((c .before .before .before .before .before .before .pre) .1 .0) .at) (omega (arith, ((c .before .before .before .before .before .before .pre) .1 .0) .room)) in
+    ap (wrap ((c .before .before .before .before .before .before .args) .stream .now) 6 opening (((c .before .before .before .before .before .before .args) .c) .place - 2)) (past (read ((c .before .before .before .before .before .before .args) .stream .now) (ranks ((c .before .before .before .before .before .before .args) .ranking)) 0 (readers ((c .before .before .before .before .before .before .args) .stream .now) (ranks ((c .before .before .before .before .before .before .args) .ranking)) ((c .before .before .before .before .before .before .args) .g)) (hold 0 0 none) (any ⨾ expr ⨾ word 48 ⨾ P.upto) again) f0 (stop _ (any-fail ((c .before .before .before .before .before .before .args) .stream .now) (ranks ((c .before .before .before .before .before .before .args) .ranking)) 0 (readers ((c .before .before .before .before .before .before .args) .stream .now) (ranks ((c .before .before .before .before .before .before .args) .ranking)) ((c .before .before .before .before .before .before .args) .g)) (hold 0 0 none) again ((c .before .before .before .before .before .before .args) .c) ((sym ((c .before .before .before .take-next) .ensures)) ∙ (c .before .e) .given .1))))
 
 pub numeric-add-sub : (t : ℕ) → numeric-lts.Need-add-sub (
   take-next-reads.Asked,
@@ -117,7 +114,7 @@ pub numeric-sub-requires : (t : ℕ) → numeric-lts.Need-sub-requires (
   close-reads.Asked,
   close-reads.Learnt,
 ) (numeric-at t) numeric.Post
-numeric-sub-requires t c κs = (omega (arith, (c .before .before .before .before .before .before .before .pre) .0), ready-after (((c .before .before .before .before .before .before .before .args) .used) + 1) 1 (((c .before .before .before .before .before .before .before .pre) .1 .0) .formed) (took-next ((c .before .before .before .before .before .before .before .args) .stream .now) ((c .before .before .before .before .before .before .before .args) .c) ((sym ((c .before .before .before .before .take-next) .ensures)) ∙ (c .before .before .d) .given .1)) (omega (arith, ((c .before .before .before .before .before .before .before .pre) .1 .0) .room)))
+numeric-sub-requires t c κs = (omega (arith, (c .before .before .before .before .before .before .before .pre) .0), ready-after (((c .before .before .before .before .before .before .before .pre) .1 .0) .formed) (took-next ((c .before .before .before .before .before .before .before .args) .stream .now) ((c .before .before .before .before .before .before .before .args) .c) ((sym ((c .before .before .before .before .take-next) .ensures)) ∙ (c .before .before .d) .given .1)) (omega (arith, ((c .before .before .before .before .before .before .before .pre) .1 .0) .room)))
 
 pub numeric-enum-known-e-2 : (t : ℕ) → numeric-lts.Need-enum-known-e-2 (
   take-next-reads.Asked,
@@ -203,9 +200,9 @@ pub numeric-upto-requires : (t : ℕ) → numeric-lts.Need-upto-requires (
 ) (numeric-at t) numeric.Post
 numeric-upto-requires t c κs =
     let f2 = rw ((c .before .before .before .before .before .before .e3) .given .1) at ((c .before .before .before .before .before .before .before .before .before .before .sub) .ensures) in
-    let m3 = expect-meets ((c .before .before .before .before .before .before .before .before .before .before .before .before .before .before .before .before .before .before .args) .stream .now) (ranks ((c .before .before .before .before .before .before .before .before .before .before .before .before .before .before .before .before .before .before .args) .ranking)) 0 (readers ((c .before .before .before .before .before .before .before .before .before .before .before .before .before .before .before .before .before .before .args) .stream .now) (ranks ((c .before .before .before .before .before .before .before .before .before .before .before .before .before .before .before .before .before .before .args) .ranking)) ((c .before .before .before .before .before .before .before .before .before .before .before .before .before .before .before .before .before .before .args) .g)) (hold 0 0 none) again ((c .before .before .before .before .before .before .e3) .given .0 .0) 48 refl refl (((c .before .before .before .before .before .before .before .before .before .before .before .before .before .before .before .before .before .before .pre) .1 .0) .formed) ((c .before .before .before .before .before .before .before .before .before .before .sub) .last .1 .0) ((c .before .before .before .before .before .before .e3) .given .0 .1 .0) 0 (omega (arith, f2 .room)) ((c .before .before .before .before .expect) .result) ((c .before .before .before .before .expect) .ensures) in
+    let m3 = expect-after ((c .before .before .before .before .before .before .before .before .before .before .before .before .before .before .before .before .before .before .args) .stream .now) (ranks ((c .before .before .before .before .before .before .before .before .before .before .before .before .before .before .before .before .before .before .args) .ranking)) 0 (readers ((c .before .before .before .before .before .before .before .before .before .before .before .before .before .before .before .before .before .before .args) .stream .now) (ranks ((c .before .before .before .before .before .before .before .before .before .before .before .before .before .before .before .before .before .before .args) .ranking)) ((c .before .before .before .before .before .before .before .before .before .before .before .before .before .before .before .before .before .before .args) .g)) (hold 0 0 none) again f2 48 refl refl (((c .before .before .before .before .before .before .before .before .before .before .before .before .before .before .before .before .before .before .pre) .1 .0) .formed) 0 (omega arith) ((c .before .before .before .before .expect) .result) ((c .before .before .before .before .expect) .ensures) in
     let f3 = rw ((c .before .before .f) .given .1) at m3 in
-    (omega (arith, (c .before .before .before .before .before .before .before .before .before .before .before .before .before .before .before .before .before .before .pre) .0), record { formed = ((c .before .before .before .before .before .before .before .before .before .before .before .before .before .before .before .before .before .before .pre) .1 .0) .formed; at = f3 .at; room = omega (arith, f3 .room) })
+    (omega (arith, (c .before .before .before .before .before .before .before .before .before .before .before .before .before .before .before .before .before .before .pre) .0), ready-at (((c .before .before .before .before .before .before .before .before .before .before .before .before .before .before .before .before .before .before .pre) .1 .0) .formed) f3 (omega arith))
 
 pub numeric-enum-known-e-5 : (t : ℕ) → numeric-lts.Need-enum-known-e-5 (
   take-next-reads.Asked,
@@ -249,7 +246,7 @@ pub numeric-close-requires : (t : ℕ) → numeric-lts.Need-close-requires (
 ) (numeric-at t) numeric.Post
 numeric-close-requires t c κs =
     let f2 = rw ((c .before .before .before .before .before .before .before .before .before .before .before .before .before .e3) .given .1) at ((c .before .before .before .before .before .before .before .before .before .before .before .before .before .before .before .before .before .sub) .ensures) in
-    let m3 = expect-meets ((c .before .before .before .before .before .before .before .before .before .before .before .before .before .before .before .before .before .before .before .before .before .before .before .before .before .args) .stream .now) (ranks ((c .before .before .before .before .before .before .before .before .before .before .before .before .before .before .before .before .before .before .before .before .before .before .before .before .before .args) .ranking)) 0 (readers ((c .before .before .before .before .before .before .before .before .before .before .before .before .before .before .before .before .before .before .before .before .before .before .before .before .before .args) .stream .now) (ranks ((c .before .before .before .before .before .before .before .before .before .before .before .before .before .before .before .before .before .before .before .before .before .before .before .before .before .args) .ranking)) ((c .before .before .before .before .before .before .before .before .before .before .before .before .before .before .before .before .before .before .before .before .before .before .before .before .before .args) .g)) (hold 0 0 none) again ((c .before .before .before .before .before .before .before .before .before .before .before .before .before .e3) .given .0 .0) 48 refl refl (((c .before .before .before .before .before .before .before .before .before .before .before .before .before .before .before .before .before .before .before .before .before .before .before .before .before .pre) .1 .0) .formed) ((c .before .before .before .before .before .before .before .before .before .before .before .before .before .before .before .before .before .sub) .last .1 .0) ((c .before .before .before .before .before .before .before .before .before .before .before .before .before .e3) .given .0 .1 .0) 0 (omega (arith, f2 .room)) ((c .before .before .before .before .before .before .before .before .before .before .before .expect) .result) ((c .before .before .before .before .before .before .before .before .before .before .before .expect) .ensures) in
+    let m3 = expect-after ((c .before .before .before .before .before .before .before .before .before .before .before .before .before .before .before .before .before .before .before .before .before .before .before .before .before .args) .stream .now) (ranks ((c .before .before .before .before .before .before .before .before .before .before .before .before .before .before .before .before .before .before .before .before .before .before .before .before .before .args) .ranking)) 0 (readers ((c .before .before .before .before .before .before .before .before .before .before .before .before .before .before .before .before .before .before .before .before .before .before .before .before .before .args) .stream .now) (ranks ((c .before .before .before .before .before .before .before .before .before .before .before .before .before .before .before .before .before .before .before .before .before .before .before .before .before .args) .ranking)) ((c .before .before .before .before .before .before .before .before .before .before .before .before .before .before .before .before .before .before .before .before .before .before .before .before .before .args) .g)) (hold 0 0 none) again f2 48 refl refl (((c .before .before .before .before .before .before .before .before .before .before .before .before .before .before .before .before .before .before .before .before .before .before .before .before .before .pre) .1 .0) .formed) 0 (omega arith) ((c .before .before .before .before .before .before .before .before .before .before .before .expect) .result) ((c .before .before .before .before .before .before .before .before .before .before .before .expect) .ensures) in
     let f3 = rw ((c .before .before .before .before .before .before .before .before .before .f) .given .1) at m3 in
     let f4 = rw ((c .before .before .h) .given .1) at ((c .before .before .before .before .before .before .upto) .ensures) in
     omega (arith, f2 .grown, f3 .grown, f4 .grown)
@@ -282,11 +279,9 @@ pub numeric-returns-2 : (t : ℕ) → numeric-lts.Need-returns-2 (
 ) (numeric-at t) numeric.Post
 unfolding read
 numeric-returns-2 t c =
-    let f0 = weighs {s = ((c .before .before .before .before .before .before .before .before .before .before .before .before .before .args) .stream .now)} ((c .before .before .before .before .before .before .before .before .before .before .before .before .before .args) .nodes .now) (((c .before .before .before .before .before .before .before .before .before .before .before .before .before .args) .used) + 1) 1 ((c .before .before .before .before .before .before .before .before .before .before .before .before .before .args) .name) ((c .before .before .before .before .before .before .before .before .before .before .before .before .before .args) .c) (((c .before .before .before .before .before .before .before .before .before .before .before .before .before .pre) .1 .0) .at) (omega (arith, ((c .before .before .before .before .before .before .before .before .before .before .before .before .before .pre) .1 .0) .room)) in
-    let q0 = ap (fine (((c .before .before .before .before .before .before .before .before .before .before .before .before .before .args) .c) .place) (((c .before .before .before .before .before .before .before .before .before .before .before .before .before .args) .c) .mark) none) (sym ((c .before .before .before .before .before .before .before .before .before .before .before .before .before .pre) .1 .2)) in
-    let g0 = alter q0 f0 in
+    let f0 = weigh-fine ((c .before .before .before .before .before .before .before .before .before .before .before .before .before .args) .stream .now) (ranks ((c .before .before .before .before .before .before .before .before .before .before .before .before .before .args) .ranking)) 0 (readers ((c .before .before .before .before .before .before .before .before .before .before .before .before .before .args) .stream .now) (ranks ((c .before .before .before .before .before .before .before .before .before .before .before .before .before .args) .ranking)) ((c .before .before .before .before .before .before .before .before .before .before .before .before .before .args) .g)) (hold 0 0 none) again ((c .before .before .before .before .before .before .before .before .before .before .before .before .before .args) .c) ((c .before .before .before .before .before .before .before .before .before .before .before .before .before .args) .nodes .now) (((c .before .before .before .before .before .before .before .before .before .before .before .before .before .args) .used) + 1) 1 ((c .before .before .before .before .before .before .before .before .before .before .before .before .before .pre) .1 .2) (((c .before .before .before .before .before .before .before .before .before .before .before .before .before .pre) .1 .0) .at) (omega (arith, ((c .before .before .before .before .before .before .before .before .before .before .before .before .before .pre) .1 .0) .room)) in
     let f1 = any-fine ((c .before .before .before .before .before .before .before .before .before .before .before .before .before .args) .stream .now) (ranks ((c .before .before .before .before .before .before .before .before .before .before .before .before .before .args) .ranking)) 0 (readers ((c .before .before .before .before .before .before .before .before .before .before .before .before .before .args) .stream .now) (ranks ((c .before .before .before .before .before .before .before .before .before .before .before .before .before .args) .ranking)) ((c .before .before .before .before .before .before .before .before .before .before .before .before .before .args) .g)) (hold 0 0 none) again ((c .before .before .before .before .before .before .before .before .before .before .before .before .before .args) .c) ((c .before .before .before .before .before .before .before .before .before .before .before .before .before .args) .nodes .now) (((c .before .before .before .before .before .before .before .before .before .before .before .before .before .args) .used) + 1) 0 (((c .before .before .before .before .before .before .before .before .before .before .before .before .before .pre) .1 .0) .formed) (omega (arith, ((c .before .before .before .before .before .before .before .before .before .before .before .before .before .pre) .1 .0) .room)) ((sym ((c .before .before .before .before .before .before .before .before .before .before .take-next) .ensures)) ∙ (c .before .before .before .before .before .before .before .before .d) .given .1) in
-    ap (wrap ((c .before .before .before .before .before .before .before .before .before .before .before .before .before .args) .stream .now) 6 opening (((c .before .before .before .before .before .before .before .before .before .before .before .before .before .args) .c) .place - 2)) (past (read ((c .before .before .before .before .before .before .before .before .before .before .before .before .before .args) .stream .now) (ranks ((c .before .before .before .before .before .before .before .before .before .before .before .before .before .args) .ranking)) 0 (readers ((c .before .before .before .before .before .before .before .before .before .before .before .before .before .args) .stream .now) (ranks ((c .before .before .before .before .before .before .before .before .before .before .before .before .before .args) .ranking)) ((c .before .before .before .before .before .before .before .before .before .before .before .before .before .args) .g)) (hold 0 0 none) (any ⨾ expr ⨾ word 48 ⨾ P.upto) again) g0 (past _ f1 (stop _ (rw ((c .before .e2) .given .1) at ((c .before .before .before .before .before .sub) .ensures)))))
+    ap (wrap ((c .before .before .before .before .before .before .before .before .before .before .before .before .before .args) .stream .now) 6 opening (((c .before .before .before .before .before .before .before .before .before .before .before .before .before .args) .c) .place - 2)) (past (read ((c .before .before .before .before .before .before .before .before .before .before .before .before .before .args) .stream .now) (ranks ((c .before .before .before .before .before .before .before .before .before .before .before .before .before .args) .ranking)) 0 (readers ((c .before .before .before .before .before .before .before .before .before .before .before .before .before .args) .stream .now) (ranks ((c .before .before .before .before .before .before .before .before .before .before .before .before .before .args) .ranking)) ((c .before .before .before .before .before .before .before .before .before .before .before .before .before .args) .g)) (hold 0 0 none) (any ⨾ expr ⨾ word 48 ⨾ P.upto) again) f0 (past _ f1 (stop _ (rw ((c .before .e2) .given .1) at ((c .before .before .before .before .before .sub) .ensures)))))
 
 pub numeric-same-length-2 : (t : ℕ) → numeric-lts.Need-same-length-2 (
   take-next-reads.Asked,
@@ -316,13 +311,11 @@ pub numeric-returns-3 : (t : ℕ) → numeric-lts.Need-returns-3 (
 ) (numeric-at t) numeric.Post
 unfolding read
 numeric-returns-3 t c =
-    let f0 = weighs {s = ((c .before .before .before .before .before .before .before .before .before .before .before .before .before .before .before .before .before .args) .stream .now)} ((c .before .before .before .before .before .before .before .before .before .before .before .before .before .before .before .before .before .args) .nodes .now) (((c .before .before .before .before .before .before .before .before .before .before .before .before .before .before .before .before .before .args) .used) + 1) 1 ((c .before .before .before .before .before .before .before .before .before .before .before .before .before .before .before .before .before .args) .name) ((c .before .before .before .before .before .before .before .before .before .before .before .before .before .before .before .before .before .args) .c) (((c .before .before .before .before .before .before .before .before .before .before .before .before .before .before .before .before .before .pre) .1 .0) .at) (omega (arith, ((c .before .before .before .before .before .before .before .before .before .before .before .before .before .before .before .before .before .pre) .1 .0) .room)) in
-    let q0 = ap (fine (((c .before .before .before .before .before .before .before .before .before .before .before .before .before .before .before .before .before .args) .c) .place) (((c .before .before .before .before .before .before .before .before .before .before .before .before .before .before .before .before .before .args) .c) .mark) none) (sym ((c .before .before .before .before .before .before .before .before .before .before .before .before .before .before .before .before .before .pre) .1 .2)) in
-    let g0 = alter q0 f0 in
+    let f0 = weigh-fine ((c .before .before .before .before .before .before .before .before .before .before .before .before .before .before .before .before .before .args) .stream .now) (ranks ((c .before .before .before .before .before .before .before .before .before .before .before .before .before .before .before .before .before .args) .ranking)) 0 (readers ((c .before .before .before .before .before .before .before .before .before .before .before .before .before .before .before .before .before .args) .stream .now) (ranks ((c .before .before .before .before .before .before .before .before .before .before .before .before .before .before .before .before .before .args) .ranking)) ((c .before .before .before .before .before .before .before .before .before .before .before .before .before .before .before .before .before .args) .g)) (hold 0 0 none) again ((c .before .before .before .before .before .before .before .before .before .before .before .before .before .before .before .before .before .args) .c) ((c .before .before .before .before .before .before .before .before .before .before .before .before .before .before .before .before .before .args) .nodes .now) (((c .before .before .before .before .before .before .before .before .before .before .before .before .before .before .before .before .before .args) .used) + 1) 1 ((c .before .before .before .before .before .before .before .before .before .before .before .before .before .before .before .before .before .pre) .1 .2) (((c .before .before .before .before .before .before .before .before .before .before .before .before .before .before .before .before .before .pre) .1 .0) .at) (omega (arith, ((c .before .before .before .before .before .before .before .before .before .before .before .before .before .before .before .before .before .pre) .1 .0) .room)) in
     let f1 = any-fine ((c .before .before .before .before .before .before .before .before .before .before .before .before .before .before .before .before .before .args) .stream .now) (ranks ((c .before .before .before .before .before .before .before .before .before .before .before .before .before .before .before .before .before .args) .ranking)) 0 (readers ((c .before .before .before .before .before .before .before .before .before .before .before .before .before .before .before .before .before .args) .stream .now) (ranks ((c .before .before .before .before .before .before .before .before .before .before .before .before .before .before .before .before .before .args) .ranking)) ((c .before .before .before .before .before .before .before .before .before .before .before .before .before .before .before .before .before .args) .g)) (hold 0 0 none) again ((c .before .before .before .before .before .before .before .before .before .before .before .before .before .before .before .before .before .args) .c) ((c .before .before .before .before .before .before .before .before .before .before .before .before .before .before .before .before .before .args) .nodes .now) (((c .before .before .before .before .before .before .before .before .before .before .before .before .before .before .before .before .before .args) .used) + 1) 0 (((c .before .before .before .before .before .before .before .before .before .before .before .before .before .before .before .before .before .pre) .1 .0) .formed) (omega (arith, ((c .before .before .before .before .before .before .before .before .before .before .before .before .before .before .before .before .before .pre) .1 .0) .room)) ((sym ((c .before .before .before .before .before .before .before .before .before .before .before .before .before .before .take-next) .ensures)) ∙ (c .before .before .before .before .before .before .before .before .before .before .before .before .d) .given .1) in
     let f2 = rw ((c .before .before .before .before .before .e3) .given .1) at ((c .before .before .before .before .before .before .before .before .before .sub) .ensures) in
-    let m3 = expect-meets ((c .before .before .before .before .before .before .before .before .before .before .before .before .before .before .before .before .before .args) .stream .now) (ranks ((c .before .before .before .before .before .before .before .before .before .before .before .before .before .before .before .before .before .args) .ranking)) 0 (readers ((c .before .before .before .before .before .before .before .before .before .before .before .before .before .before .before .before .before .args) .stream .now) (ranks ((c .before .before .before .before .before .before .before .before .before .before .before .before .before .before .before .before .before .args) .ranking)) ((c .before .before .before .before .before .before .before .before .before .before .before .before .before .before .before .before .before .args) .g)) (hold 0 0 none) again ((c .before .before .before .before .before .e3) .given .0 .0) 48 refl refl (((c .before .before .before .before .before .before .before .before .before .before .before .before .before .before .before .before .before .pre) .1 .0) .formed) ((c .before .before .before .before .before .before .before .before .before .sub) .last .1 .0) ((c .before .before .before .before .before .e3) .given .0 .1 .0) 0 (omega (arith, f2 .room)) ((c .before .before .before .expect) .result) ((c .before .before .before .expect) .ensures) in
-    ap (wrap ((c .before .before .before .before .before .before .before .before .before .before .before .before .before .before .before .before .before .args) .stream .now) 6 opening (((c .before .before .before .before .before .before .before .before .before .before .before .before .before .before .before .before .before .args) .c) .place - 2)) (past (read ((c .before .before .before .before .before .before .before .before .before .before .before .before .before .before .before .before .before .args) .stream .now) (ranks ((c .before .before .before .before .before .before .before .before .before .before .before .before .before .before .before .before .before .args) .ranking)) 0 (readers ((c .before .before .before .before .before .before .before .before .before .before .before .before .before .before .before .before .before .args) .stream .now) (ranks ((c .before .before .before .before .before .before .before .before .before .before .before .before .before .before .before .before .before .args) .ranking)) ((c .before .before .before .before .before .before .before .before .before .before .before .before .before .before .before .before .before .args) .g)) (hold 0 0 none) (any ⨾ expr ⨾ word 48 ⨾ P.upto) again) g0 (past _ f1 (past _ f2 (stop _ (rw ((c .before .e4) .given .1) at m3)))))
+    let m3 = expect-after ((c .before .before .before .before .before .before .before .before .before .before .before .before .before .before .before .before .before .args) .stream .now) (ranks ((c .before .before .before .before .before .before .before .before .before .before .before .before .before .before .before .before .before .args) .ranking)) 0 (readers ((c .before .before .before .before .before .before .before .before .before .before .before .before .before .before .before .before .before .args) .stream .now) (ranks ((c .before .before .before .before .before .before .before .before .before .before .before .before .before .before .before .before .before .args) .ranking)) ((c .before .before .before .before .before .before .before .before .before .before .before .before .before .before .before .before .before .args) .g)) (hold 0 0 none) again f2 48 refl refl (((c .before .before .before .before .before .before .before .before .before .before .before .before .before .before .before .before .before .pre) .1 .0) .formed) 0 (omega arith) ((c .before .before .before .expect) .result) ((c .before .before .before .expect) .ensures) in
+    ap (wrap ((c .before .before .before .before .before .before .before .before .before .before .before .before .before .before .before .before .before .args) .stream .now) 6 opening (((c .before .before .before .before .before .before .before .before .before .before .before .before .before .before .before .before .before .args) .c) .place - 2)) (past (read ((c .before .before .before .before .before .before .before .before .before .before .before .before .before .before .before .before .before .args) .stream .now) (ranks ((c .before .before .before .before .before .before .before .before .before .before .before .before .before .before .before .before .before .args) .ranking)) 0 (readers ((c .before .before .before .before .before .before .before .before .before .before .before .before .before .before .before .before .before .args) .stream .now) (ranks ((c .before .before .before .before .before .before .before .before .before .before .before .before .before .before .before .before .before .args) .ranking)) ((c .before .before .before .before .before .before .before .before .before .before .before .before .before .before .before .before .before .args) .g)) (hold 0 0 none) (any ⨾ expr ⨾ word 48 ⨾ P.upto) again) f0 (past _ f1 (past _ f2 (stop _ (rw ((c .before .e4) .given .1) at m3)))))
 
 pub numeric-same-length-3 : (t : ℕ) → numeric-lts.Need-same-length-3 (
   take-next-reads.Asked,
@@ -352,14 +345,12 @@ pub numeric-returns-4 : (t : ℕ) → numeric-lts.Need-returns-4 (
 ) (numeric-at t) numeric.Post
 unfolding read
 numeric-returns-4 t c =
-    let f0 = weighs {s = ((c .before .before .before .before .before .before .before .before .before .before .before .before .before .before .before .before .before .before .before .before .before .before .before .before .args) .stream .now)} ((c .before .before .before .before .before .before .before .before .before .before .before .before .before .before .before .before .before .before .before .before .before .before .before .before .args) .nodes .now) (((c .before .before .before .before .before .before .before .before .before .before .before .before .before .before .before .before .before .before .before .before .before .before .before .before .args) .used) + 1) 1 ((c .before .before .before .before .before .before .before .before .before .before .before .before .before .before .before .before .before .before .before .before .before .before .before .before .args) .name) ((c .before .before .before .before .before .before .before .before .before .before .before .before .before .before .before .before .before .before .before .before .before .before .before .before .args) .c) (((c .before .before .before .before .before .before .before .before .before .before .before .before .before .before .before .before .before .before .before .before .before .before .before .before .pre) .1 .0) .at) (omega (arith, ((c .before .before .before .before .before .before .before .before .before .before .before .before .before .before .before .before .before .before .before .before .before .before .before .before .pre) .1 .0) .room)) in
-    let q0 = ap (fine (((c .before .before .before .before .before .before .before .before .before .before .before .before .before .before .before .before .before .before .before .before .before .before .before .before .args) .c) .place) (((c .before .before .before .before .before .before .before .before .before .before .before .before .before .before .before .before .before .before .before .before .before .before .before .before .args) .c) .mark) none) (sym ((c .before .before .before .before .before .before .before .before .before .before .before .before .before .before .before .before .before .before .before .before .before .before .before .before .pre) .1 .2)) in
-    let g0 = alter q0 f0 in
+    let f0 = weigh-fine ((c .before .before .before .before .before .before .before .before .before .before .before .before .before .before .before .before .before .before .before .before .before .before .before .before .args) .stream .now) (ranks ((c .before .before .before .before .before .before .before .before .before .before .before .before .before .before .before .before .before .before .before .before .before .before .before .before .args) .ranking)) 0 (readers ((c .before .before .before .before .before .before .before .before .before .before .before .before .before .before .before .before .before .before .before .before .before .before .before .before .args) .stream .now) (ranks ((c .before .before .before .before .before .before .before .before .before .before .before .before .before .before .before .before .before .before .before .before .before .before .before .before .args) .ranking)) ((c .before .before .before .before .before .before .before .before .before .before .before .before .before .before .before .before .before .before .before .before .before .before .before .before .args) .g)) (hold 0 0 none) again ((c .before .before .before .before .before .before .before .before .before .before .before .before .before .before .before .before .before .before .before .before .before .before .before .before .args) .c) ((c .before .before .before .before .before .before .before .before .before .before .before .before .before .before .before .before .before .before .before .before .before .before .before .before .args) .nodes .now) (((c .before .before .before .before .before .before .before .before .before .before .before .before .before .before .before .before .before .before .before .before .before .before .before .before .args) .used) + 1) 1 ((c .before .before .before .before .before .before .before .before .before .before .before .before .before .before .before .before .before .before .before .before .before .before .before .before .pre) .1 .2) (((c .before .before .before .before .before .before .before .before .before .before .before .before .before .before .before .before .before .before .before .before .before .before .before .before .pre) .1 .0) .at) (omega (arith, ((c .before .before .before .before .before .before .before .before .before .before .before .before .before .before .before .before .before .before .before .before .before .before .before .before .pre) .1 .0) .room)) in
     let f1 = any-fine ((c .before .before .before .before .before .before .before .before .before .before .before .before .before .before .before .before .before .before .before .before .before .before .before .before .args) .stream .now) (ranks ((c .before .before .before .before .before .before .before .before .before .before .before .before .before .before .before .before .before .before .before .before .before .before .before .before .args) .ranking)) 0 (readers ((c .before .before .before .before .before .before .before .before .before .before .before .before .before .before .before .before .before .before .before .before .before .before .before .before .args) .stream .now) (ranks ((c .before .before .before .before .before .before .before .before .before .before .before .before .before .before .before .before .before .before .before .before .before .before .before .before .args) .ranking)) ((c .before .before .before .before .before .before .before .before .before .before .before .before .before .before .before .before .before .before .before .before .before .before .before .before .args) .g)) (hold 0 0 none) again ((c .before .before .before .before .before .before .before .before .before .before .before .before .before .before .before .before .before .before .before .before .before .before .before .before .args) .c) ((c .before .before .before .before .before .before .before .before .before .before .before .before .before .before .before .before .before .before .before .before .before .before .before .before .args) .nodes .now) (((c .before .before .before .before .before .before .before .before .before .before .before .before .before .before .before .before .before .before .before .before .before .before .before .before .args) .used) + 1) 0 (((c .before .before .before .before .before .before .before .before .before .before .before .before .before .before .before .before .before .before .before .before .before .before .before .before .pre) .1 .0) .formed) (omega (arith, ((c .before .before .before .before .before .before .before .before .before .before .before .before .before .before .before .before .before .before .before .before .before .before .before .before .pre) .1 .0) .room)) ((sym ((c .before .before .before .before .before .before .before .before .before .before .before .before .before .before .before .before .before .before .before .before .before .take-next) .ensures)) ∙ (c .before .before .before .before .before .before .before .before .before .before .before .before .before .before .before .before .before .before .before .d) .given .1) in
     let f2 = rw ((c .before .before .before .before .before .before .before .before .before .before .before .before .e3) .given .1) at ((c .before .before .before .before .before .before .before .before .before .before .before .before .before .before .before .before .sub) .ensures) in
-    let m3 = expect-meets ((c .before .before .before .before .before .before .before .before .before .before .before .before .before .before .before .before .before .before .before .before .before .before .before .before .args) .stream .now) (ranks ((c .before .before .before .before .before .before .before .before .before .before .before .before .before .before .before .before .before .before .before .before .before .before .before .before .args) .ranking)) 0 (readers ((c .before .before .before .before .before .before .before .before .before .before .before .before .before .before .before .before .before .before .before .before .before .before .before .before .args) .stream .now) (ranks ((c .before .before .before .before .before .before .before .before .before .before .before .before .before .before .before .before .before .before .before .before .before .before .before .before .args) .ranking)) ((c .before .before .before .before .before .before .before .before .before .before .before .before .before .before .before .before .before .before .before .before .before .before .before .before .args) .g)) (hold 0 0 none) again ((c .before .before .before .before .before .before .before .before .before .before .before .before .e3) .given .0 .0) 48 refl refl (((c .before .before .before .before .before .before .before .before .before .before .before .before .before .before .before .before .before .before .before .before .before .before .before .before .pre) .1 .0) .formed) ((c .before .before .before .before .before .before .before .before .before .before .before .before .before .before .before .before .sub) .last .1 .0) ((c .before .before .before .before .before .before .before .before .before .before .before .before .e3) .given .0 .1 .0) 0 (omega (arith, f2 .room)) ((c .before .before .before .before .before .before .before .before .before .before .expect) .result) ((c .before .before .before .before .before .before .before .before .before .before .expect) .ensures) in
+    let m3 = expect-after ((c .before .before .before .before .before .before .before .before .before .before .before .before .before .before .before .before .before .before .before .before .before .before .before .before .args) .stream .now) (ranks ((c .before .before .before .before .before .before .before .before .before .before .before .before .before .before .before .before .before .before .before .before .before .before .before .before .args) .ranking)) 0 (readers ((c .before .before .before .before .before .before .before .before .before .before .before .before .before .before .before .before .before .before .before .before .before .before .before .before .args) .stream .now) (ranks ((c .before .before .before .before .before .before .before .before .before .before .before .before .before .before .before .before .before .before .before .before .before .before .before .before .args) .ranking)) ((c .before .before .before .before .before .before .before .before .before .before .before .before .before .before .before .before .before .before .before .before .before .before .before .before .args) .g)) (hold 0 0 none) again f2 48 refl refl (((c .before .before .before .before .before .before .before .before .before .before .before .before .before .before .before .before .before .before .before .before .before .before .before .before .pre) .1 .0) .formed) 0 (omega arith) ((c .before .before .before .before .before .before .before .before .before .before .expect) .result) ((c .before .before .before .before .before .before .before .before .before .before .expect) .ensures) in
     let f3 = rw ((c .before .before .before .before .before .before .before .before .f) .given .1) at m3 in
-    ap (wrap ((c .before .before .before .before .before .before .before .before .before .before .before .before .before .before .before .before .before .before .before .before .before .before .before .before .args) .stream .now) 6 opening (((c .before .before .before .before .before .before .before .before .before .before .before .before .before .before .before .before .before .before .before .before .before .before .before .before .args) .c) .place - 2)) (past (read ((c .before .before .before .before .before .before .before .before .before .before .before .before .before .before .before .before .before .before .before .before .before .before .before .before .args) .stream .now) (ranks ((c .before .before .before .before .before .before .before .before .before .before .before .before .before .before .before .before .before .before .before .before .before .before .before .before .args) .ranking)) 0 (readers ((c .before .before .before .before .before .before .before .before .before .before .before .before .before .before .before .before .before .before .before .before .before .before .before .before .args) .stream .now) (ranks ((c .before .before .before .before .before .before .before .before .before .before .before .before .before .before .before .before .before .before .before .before .before .before .before .before .args) .ranking)) ((c .before .before .before .before .before .before .before .before .before .before .before .before .before .before .before .before .before .before .before .before .before .before .before .before .args) .g)) (hold 0 0 none) (any ⨾ expr ⨾ word 48 ⨾ P.upto) again) g0 (past _ f1 (past _ f2 (past _ f3 (rw ((c .before .e5) .given .1) at ((c .before .before .before .before .before .upto) .ensures))))))
+    ap (wrap ((c .before .before .before .before .before .before .before .before .before .before .before .before .before .before .before .before .before .before .before .before .before .before .before .before .args) .stream .now) 6 opening (((c .before .before .before .before .before .before .before .before .before .before .before .before .before .before .before .before .before .before .before .before .before .before .before .before .args) .c) .place - 2)) (past (read ((c .before .before .before .before .before .before .before .before .before .before .before .before .before .before .before .before .before .before .before .before .before .before .before .before .args) .stream .now) (ranks ((c .before .before .before .before .before .before .before .before .before .before .before .before .before .before .before .before .before .before .before .before .before .before .before .before .args) .ranking)) 0 (readers ((c .before .before .before .before .before .before .before .before .before .before .before .before .before .before .before .before .before .before .before .before .before .before .before .before .args) .stream .now) (ranks ((c .before .before .before .before .before .before .before .before .before .before .before .before .before .before .before .before .before .before .before .before .before .before .before .before .args) .ranking)) ((c .before .before .before .before .before .before .before .before .before .before .before .before .before .before .before .before .before .before .before .before .before .before .before .before .args) .g)) (hold 0 0 none) (any ⨾ expr ⨾ word 48 ⨾ P.upto) again) f0 (past _ f1 (past _ f2 (past _ f3 (rw ((c .before .e5) .given .1) at ((c .before .before .before .before .before .upto) .ensures))))))
 
 pub numeric-same-length-4 : (t : ℕ) → numeric-lts.Need-same-length-4 (
   take-next-reads.Asked,
@@ -389,14 +380,12 @@ pub numeric-returns-5 : (t : ℕ) → numeric-lts.Need-returns-5 (
 ) (numeric-at t) numeric.Post
 unfolding read
 numeric-returns-5 t c =
-    let f0 = weighs {s = ((c .before .before .before .before .before .before .before .before .before .before .before .before .before .before .before .before .before .before .before .before .before .before .before .before .before .before .before .before .args) .stream .now)} ((c .before .before .before .before .before .before .before .before .before .before .before .before .before .before .before .before .before .before .before .before .before .before .before .before .before .before .before .before .args) .nodes .now) (((c .before .before .before .before .before .before .before .before .before .before .before .before .before .before .before .before .before .before .before .before .before .before .before .before .before .before .before .before .args) .used) + 1) 1 ((c .before .before .before .before .before .before .before .before .before .before .before .before .before .before .before .before .before .before .before .before .before .before .before .before .before .before .before .before .args) .name) ((c .before .before .before .before .before .before .before .before .before .before .before .before .before .before .before .before .before .before .before .before .before .before .before .before .before .before .before .before .args) .c) (((c .before .before .before .before .before .before .before .before .before .before .before .before .before .before .before .before .before .before .before .before .before .before .before .before .before .before .before .before .pre) .1 .0) .at) (omega (arith, ((c .before .before .before .before .before .before .before .before .before .before .before .before .before .before .before .before .before .before .before .before .before .before .before .before .before .before .before .before .pre) .1 .0) .room)) in
-    let q0 = ap (fine (((c .before .before .before .before .before .before .before .before .before .before .before .before .before .before .before .before .before .before .before .before .before .before .before .before .before .before .before .before .args) .c) .place) (((c .before .before .before .before .before .before .before .before .before .before .before .before .before .before .before .before .before .before .before .before .before .before .before .before .before .before .before .before .args) .c) .mark) none) (sym ((c .before .before .before .before .before .before .before .before .before .before .before .before .before .before .before .before .before .before .before .before .before .before .before .before .before .before .before .before .pre) .1 .2)) in
-    let g0 = alter q0 f0 in
+    let f0 = weigh-fine ((c .before .before .before .before .before .before .before .before .before .before .before .before .before .before .before .before .before .before .before .before .before .before .before .before .before .before .before .before .args) .stream .now) (ranks ((c .before .before .before .before .before .before .before .before .before .before .before .before .before .before .before .before .before .before .before .before .before .before .before .before .before .before .before .before .args) .ranking)) 0 (readers ((c .before .before .before .before .before .before .before .before .before .before .before .before .before .before .before .before .before .before .before .before .before .before .before .before .before .before .before .before .args) .stream .now) (ranks ((c .before .before .before .before .before .before .before .before .before .before .before .before .before .before .before .before .before .before .before .before .before .before .before .before .before .before .before .before .args) .ranking)) ((c .before .before .before .before .before .before .before .before .before .before .before .before .before .before .before .before .before .before .before .before .before .before .before .before .before .before .before .before .args) .g)) (hold 0 0 none) again ((c .before .before .before .before .before .before .before .before .before .before .before .before .before .before .before .before .before .before .before .before .before .before .before .before .before .before .before .before .args) .c) ((c .before .before .before .before .before .before .before .before .before .before .before .before .before .before .before .before .before .before .before .before .before .before .before .before .before .before .before .before .args) .nodes .now) (((c .before .before .before .before .before .before .before .before .before .before .before .before .before .before .before .before .before .before .before .before .before .before .before .before .before .before .before .before .args) .used) + 1) 1 ((c .before .before .before .before .before .before .before .before .before .before .before .before .before .before .before .before .before .before .before .before .before .before .before .before .before .before .before .before .pre) .1 .2) (((c .before .before .before .before .before .before .before .before .before .before .before .before .before .before .before .before .before .before .before .before .before .before .before .before .before .before .before .before .pre) .1 .0) .at) (omega (arith, ((c .before .before .before .before .before .before .before .before .before .before .before .before .before .before .before .before .before .before .before .before .before .before .before .before .before .before .before .before .pre) .1 .0) .room)) in
     let f1 = any-fine ((c .before .before .before .before .before .before .before .before .before .before .before .before .before .before .before .before .before .before .before .before .before .before .before .before .before .before .before .before .args) .stream .now) (ranks ((c .before .before .before .before .before .before .before .before .before .before .before .before .before .before .before .before .before .before .before .before .before .before .before .before .before .before .before .before .args) .ranking)) 0 (readers ((c .before .before .before .before .before .before .before .before .before .before .before .before .before .before .before .before .before .before .before .before .before .before .before .before .before .before .before .before .args) .stream .now) (ranks ((c .before .before .before .before .before .before .before .before .before .before .before .before .before .before .before .before .before .before .before .before .before .before .before .before .before .before .before .before .args) .ranking)) ((c .before .before .before .before .before .before .before .before .before .before .before .before .before .before .before .before .before .before .before .before .before .before .before .before .before .before .before .before .args) .g)) (hold 0 0 none) again ((c .before .before .before .before .before .before .before .before .before .before .before .before .before .before .before .before .before .before .before .before .before .before .before .before .before .before .before .before .args) .c) ((c .before .before .before .before .before .before .before .before .before .before .before .before .before .before .before .before .before .before .before .before .before .before .before .before .before .before .before .before .args) .nodes .now) (((c .before .before .before .before .before .before .before .before .before .before .before .before .before .before .before .before .before .before .before .before .before .before .before .before .before .before .before .before .args) .used) + 1) 0 (((c .before .before .before .before .before .before .before .before .before .before .before .before .before .before .before .before .before .before .before .before .before .before .before .before .before .before .before .before .pre) .1 .0) .formed) (omega (arith, ((c .before .before .before .before .before .before .before .before .before .before .before .before .before .before .before .before .before .before .before .before .before .before .before .before .before .before .before .before .pre) .1 .0) .room)) ((sym ((c .before .before .before .before .before .before .before .before .before .before .before .before .before .before .before .before .before .before .before .before .before .before .before .before .before .take-next) .ensures)) ∙ (c .before .before .before .before .before .before .before .before .before .before .before .before .before .before .before .before .before .before .before .before .before .before .before .d) .given .1) in
     let f2 = rw ((c .before .before .before .before .before .before .before .before .before .before .before .before .before .before .before .before .e3) .given .1) at ((c .before .before .before .before .before .before .before .before .before .before .before .before .before .before .before .before .before .before .before .before .sub) .ensures) in
-    let m3 = expect-meets ((c .before .before .before .before .before .before .before .before .before .before .before .before .before .before .before .before .before .before .before .before .before .before .before .before .before .before .before .before .args) .stream .now) (ranks ((c .before .before .before .before .before .before .before .before .before .before .before .before .before .before .before .before .before .before .before .before .before .before .before .before .before .before .before .before .args) .ranking)) 0 (readers ((c .before .before .before .before .before .before .before .before .before .before .before .before .before .before .before .before .before .before .before .before .before .before .before .before .before .before .before .before .args) .stream .now) (ranks ((c .before .before .before .before .before .before .before .before .before .before .before .before .before .before .before .before .before .before .before .before .before .before .before .before .before .before .before .before .args) .ranking)) ((c .before .before .before .before .before .before .before .before .before .before .before .before .before .before .before .before .before .before .before .before .before .before .before .before .before .before .before .before .args) .g)) (hold 0 0 none) again ((c .before .before .before .before .before .before .before .before .before .before .before .before .before .before .before .before .e3) .given .0 .0) 48 refl refl (((c .before .before .before .before .before .before .before .before .before .before .before .before .before .before .before .before .before .before .before .before .before .before .before .before .before .before .before .before .pre) .1 .0) .formed) ((c .before .before .before .before .before .before .before .before .before .before .before .before .before .before .before .before .before .before .before .before .sub) .last .1 .0) ((c .before .before .before .before .before .before .before .before .before .before .before .before .before .before .before .before .e3) .given .0 .1 .0) 0 (omega (arith, f2 .room)) ((c .before .before .before .before .before .before .before .before .before .before .before .before .before .before .expect) .result) ((c .before .before .before .before .before .before .before .before .before .before .before .before .before .before .expect) .ensures) in
+    let m3 = expect-after ((c .before .before .before .before .before .before .before .before .before .before .before .before .before .before .before .before .before .before .before .before .before .before .before .before .before .before .before .before .args) .stream .now) (ranks ((c .before .before .before .before .before .before .before .before .before .before .before .before .before .before .before .before .before .before .before .before .before .before .before .before .before .before .before .before .args) .ranking)) 0 (readers ((c .before .before .before .before .before .before .before .before .before .before .before .before .before .before .before .before .before .before .before .before .before .before .before .before .before .before .before .before .args) .stream .now) (ranks ((c .before .before .before .before .before .before .before .before .before .before .before .before .before .before .before .before .before .before .before .before .before .before .before .before .before .before .before .before .args) .ranking)) ((c .before .before .before .before .before .before .before .before .before .before .before .before .before .before .before .before .before .before .before .before .before .before .before .before .before .before .before .before .args) .g)) (hold 0 0 none) again f2 48 refl refl (((c .before .before .before .before .before .before .before .before .before .before .before .before .before .before .before .before .before .before .before .before .before .before .before .before .before .before .before .before .pre) .1 .0) .formed) 0 (omega arith) ((c .before .before .before .before .before .before .before .before .before .before .before .before .before .before .expect) .result) ((c .before .before .before .before .before .before .before .before .before .before .before .before .before .before .expect) .ensures) in
     let f3 = rw ((c .before .before .before .before .before .before .before .before .before .before .before .before .f) .given .1) at m3 in
     let f4 = rw ((c .before .before .before .before .before .h) .given .1) at ((c .before .before .before .before .before .before .before .before .before .upto) .ensures) in
     let b = both _ f1 (both _ f2 (both _ f3 f4 (omega arith)) (omega arith)) (omega arith) in
-    let w = revalue {w = (c .before .before .before .before .before .before .before .before .before .before .before .before .before .before .before .before .before .before .before .before .before .before .before .before .before .before .before .before .args) .name} (omega arith) (both-later (((c .before .before .before .before .before .before .before .before .before .before .before .before .before .before .before .before .before .before .before .before .before .before .before .before .before .before .before .before .args) .c) .place + 1) (read ((c .before .before .before .before .before .before .before .before .before .before .before .before .before .before .before .before .before .before .before .before .before .before .before .before .before .before .before .before .args) .stream .now) (ranks ((c .before .before .before .before .before .before .before .before .before .before .before .before .before .before .before .before .before .before .before .before .before .before .before .before .before .before .before .before .args) .ranking)) 0 (readers ((c .before .before .before .before .before .before .before .before .before .before .before .before .before .before .before .before .before .before .before .before .before .before .before .before .before .before .before .before .args) .stream .now) (ranks ((c .before .before .before .before .before .before .before .before .before .before .before .before .before .before .before .before .before .before .before .before .before .before .before .before .before .before .before .before .args) .ranking)) ((c .before .before .before .before .before .before .before .before .before .before .before .before .before .before .before .before .before .before .before .before .before .before .before .before .before .before .before .before .args) .g)) (hold 0 0 none) (any ⨾ expr ⨾ word 48 ⨾ P.upto) again) g0 b (omega arith) (omega arith)) in
+    let w = revalue {w = (c .before .before .before .before .before .before .before .before .before .before .before .before .before .before .before .before .before .before .before .before .before .before .before .before .before .before .before .before .args) .name} (omega arith) (lower (((c .before .before .before .before .before .before .before .before .before .before .before .before .before .before .before .before .before .before .before .before .before .before .before .before .before .before .before .before .args) .c) .place + 1) (both (read ((c .before .before .before .before .before .before .before .before .before .before .before .before .before .before .before .before .before .before .before .before .before .before .before .before .before .before .before .before .args) .stream .now) (ranks ((c .before .before .before .before .before .before .before .before .before .before .before .before .before .before .before .before .before .before .before .before .before .before .before .before .before .before .before .before .args) .ranking)) 0 (readers ((c .before .before .before .before .before .before .before .before .before .before .before .before .before .before .before .before .before .before .before .before .before .before .before .before .before .before .before .before .args) .stream .now) (ranks ((c .before .before .before .before .before .before .before .before .before .before .before .before .before .before .before .before .before .before .before .before .before .before .before .before .before .before .before .before .args) .ranking)) ((c .before .before .before .before .before .before .before .before .before .before .before .before .before .before .before .before .before .before .before .before .before .before .before .before .before .before .before .before .args) .g)) (hold 0 0 none) (any ⨾ expr ⨾ word 48 ⨾ P.upto) again) f0 b (omega arith)) (omega (arith, b .later))) in
     rw ((c .before .before .close) .ensures .0) (over 6 opening (((c .before .before .before .before .before .before .before .before .before .before .before .before .before .before .before .before .before .before .before .before .before .before .before .before .before .before .before .before .args) .c) .place - 2) ((c .before .before .before .before .before .before .before .before .before .before .before .before .before .before .before .before .before .before .before .before .before .before .before .before .before .before .before .before .args) .line) w ((c .before .before .close) .ensures .1) ((c .before .before .before .before .before .before .before .before .before .before .before .before .before .before .before .before .before .before .before .before .before .before .before .before .before .before .before .before .pre) .1 .1))

@@ -16,20 +16,20 @@ use Prim.Native.Nat.{ℕ, _+_, _-_}
 use native.Mathlib.Omega.{arith}
 use Rattle.operators.specs.Ranks.{ranks}
 use Rattle.tree.specs.Forest.{none}
-use Rattle.grammar.specs.Reading.{Out, fail, read, hold, wrap, then, last}
+use Rattle.grammar.specs.Reading.{Out, fail, read, hold, wrap, then}
 use Rattle.grammar.specs.Levels.{readers}
-use Rattle.grammar.specs.Term.{next, unlined, here}
-use Rattle.grammar.specs.Term.{any, leaf, _⨾_, on, refuse, node}
+use Rattle.grammar.specs.Term.{unlined, here}
+use Rattle.grammar.specs.Term.{any, leaf, _⨾_, refuse, node}
 use Rattle.grammar.specs.Productions.{word}
 use Rattle.parser.specs.Contract.{says, again}
 use Rattle.stream.proofs.Words.{few}
-use Rattle.parser.proofs.Steps.{took-next, next-fail, next-in, next-out}
-use Rattle.parser.proofs.Kit.{alter, kept, stop, past, both, over}
+use Rattle.parser.proofs.Steps.{took-next}
+use Rattle.parser.proofs.Kit.{kept, alter, stop, past, both, over}
 use Rattle.parser.proofs.Tokens.{ready-after, any-says, any-fine, leaf-after}
-use Rattle.parser.proofs.Looks.{got-again, take-fails, take-gets, take-takes, refused, expect-meets}
+use Rattle.parser.proofs.Looks.{take-fails, take-gets, take-takes, refused, by-none, by-kind, by-others, expect-after}
+use Rattle.parser.proofs.Suffixes.{last-from, tag-is}
 use Rattle.grammar.specs.Productions.{expr, primary as primary′}
 use Rattle.stream.specs.Reader.{readAhead}
-use Rattle.parser.proofs.Tags.{one-in, one-out, alike, last-from, tag-is}
 
 pub primary-take-next-requires : (t : ℕ) → primary-lts.Need-take-next-requires (
   take-next-reads.Asked,
@@ -99,7 +99,7 @@ pub primary-sub-requires : (t : ℕ) → primary-lts.Need-sub-requires (
   refuse-reads.Asked,
   refuse-reads.Learnt,
 ) (primary-at t) primary.Post
-primary-sub-requires t c κs = (omega (arith, (c .before .before .before .before .before .before .before .before .pre) .0), ready-after (((c .before .before .before .before .before .before .before .before .args) .used) + 1) 1 (((c .before .before .before .before .before .before .before .before .pre) .1) .formed) (took-next ((c .before .before .before .before .before .before .before .before .args) .stream .now) ((c .before .before .before .before .before .before .before .before .args) .c) ((sym ((c .before .before .before .before .before .take-next) .ensures)) ∙ (c .before .before .before .t) .given .1)) (omega (arith, ((c .before .before .before .before .before .before .before .before .pre) .1) .room)))
+primary-sub-requires t c κs = (omega (arith, (c .before .before .before .before .before .before .before .before .pre) .0), ready-after (((c .before .before .before .before .before .before .before .before .pre) .1) .formed) (took-next ((c .before .before .before .before .before .before .before .before .args) .stream .now) ((c .before .before .before .before .before .before .before .before .args) .c) ((sym ((c .before .before .before .before .before .take-next) .ensures)) ∙ (c .before .before .before .t) .given .1)) (omega (arith, ((c .before .before .before .before .before .before .before .before .pre) .1) .room)))
 
 pub primary-enum-known-e-2 : (t : ℕ) → primary-lts.Need-enum-known-e-2 (
   take-next-reads.Asked,
@@ -185,7 +185,7 @@ pub primary-sub-put : (t : ℕ) → primary-lts.Need-sub-put (
 ) (primary-at t) primary.Post
 primary-sub-put t c =
     let f2 = rw ((c .before .before .before .before .before .before .e3) .given .1) at ((c .before .before .before .before .before .before .before .before .before .before .sub) .ensures) in
-    let m3 = expect-meets ((c .before .before .before .before .before .before .before .before .before .before .before .before .before .before .before .before .before .before .before .args) .stream .now) (ranks ((c .before .before .before .before .before .before .before .before .before .before .before .before .before .before .before .before .before .before .before .args) .ranking)) 0 (readers ((c .before .before .before .before .before .before .before .before .before .before .before .before .before .before .before .before .before .before .before .args) .stream .now) (ranks ((c .before .before .before .before .before .before .before .before .before .before .before .before .before .before .before .before .before .before .before .args) .ranking)) ((c .before .before .before .before .before .before .before .before .before .before .before .before .before .before .before .before .before .before .before .args) .g)) (hold 0 0 none) again ((c .before .before .before .before .before .before .e3) .given .0 .0) 50 refl refl (((c .before .before .before .before .before .before .before .before .before .before .before .before .before .before .before .before .before .before .before .pre) .1) .formed) ((c .before .before .before .before .before .before .before .before .before .before .sub) .last .1 .0) ((c .before .before .before .before .before .before .e3) .given .0 .1 .0) 0 (omega (arith, f2 .room)) ((c .before .before .before .before .expect) .result) ((c .before .before .before .before .expect) .ensures) in
+    let m3 = expect-after ((c .before .before .before .before .before .before .before .before .before .before .before .before .before .before .before .before .before .before .before .args) .stream .now) (ranks ((c .before .before .before .before .before .before .before .before .before .before .before .before .before .before .before .before .before .before .before .args) .ranking)) 0 (readers ((c .before .before .before .before .before .before .before .before .before .before .before .before .before .before .before .before .before .before .before .args) .stream .now) (ranks ((c .before .before .before .before .before .before .before .before .before .before .before .before .before .before .before .before .before .before .before .args) .ranking)) ((c .before .before .before .before .before .before .before .before .before .before .before .before .before .before .before .before .before .before .before .args) .g)) (hold 0 0 none) again f2 50 refl refl (((c .before .before .before .before .before .before .before .before .before .before .before .before .before .before .before .before .before .before .before .pre) .1) .formed) 0 (omega arith) ((c .before .before .before .before .expect) .result) ((c .before .before .before .before .expect) .ensures) in
     let f3 = rw ((c .before .before .f) .given .1) at m3 in
     omega (arith, f2 .grown, f3 .grown)
 
@@ -258,7 +258,7 @@ pub primary-returns : (t : ℕ) → primary-lts.Need-returns (
   refuse-reads.Learnt,
 ) (primary-at t) primary.Post
 unfolding read primary′
-primary-returns t c = next-fail ((c .before .before .before .before .before .before .args) .stream .now) (ranks ((c .before .before .before .before .before .before .args) .ranking)) 0 (readers ((c .before .before .before .before .before .before .args) .stream .now) (ranks ((c .before .before .before .before .before .before .args) .ranking)) ((c .before .before .before .before .before .before .args) .g)) (hold 0 0 none) again ((c .before .before .before .before .before .before .args) .c) (49 ∷ []) (node 31 here unlined (any ⨾ expr ⨾ word 50)) (on next (58 ∷ []) (any ⨾ leaf 30) (refuse 61)) (take-fails ((c .before .before .before .before .before .before .args) .stream .now) ((c .before .before .before .before .before .before .args) .c) ((sym ((c .before .before .before .take-next) .ensures)) ∙ (c .before .e) .given .1))
+primary-returns t c = by-none ((c .before .before .before .before .before .before .args) .stream .now) (ranks ((c .before .before .before .before .before .before .args) .ranking)) 0 (readers ((c .before .before .before .before .before .before .args) .stream .now) (ranks ((c .before .before .before .before .before .before .args) .ranking)) ((c .before .before .before .before .before .before .args) .g)) (hold 0 0 none) again ((c .before .before .before .before .before .before .args) .c) (49, node 31 here unlined (any ⨾ expr ⨾ word 50)) ((58, any ⨾ leaf 30) ∷ []) (refuse 61) (take-fails ((c .before .before .before .before .before .before .args) .stream .now) ((c .before .before .before .before .before .before .args) .c) ((sym ((c .before .before .before .take-next) .ensures)) ∙ (c .before .e) .given .1))
 
 pub primary-same-length : (t : ℕ) → primary-lts.Need-same-length (
   take-next-reads.Asked,
@@ -289,7 +289,7 @@ pub primary-returns-2 : (t : ℕ) → primary-lts.Need-returns-2 (
 unfolding read primary′
 primary-returns-2 t c =
     let f1 = any-fine ((c .before .before .before .before .before .before .before .before .before .before .before .before .before .before .args) .stream .now) (ranks ((c .before .before .before .before .before .before .before .before .before .before .before .before .before .before .args) .ranking)) 0 (readers ((c .before .before .before .before .before .before .before .before .before .before .before .before .before .before .args) .stream .now) (ranks ((c .before .before .before .before .before .before .before .before .before .before .before .before .before .before .args) .ranking)) ((c .before .before .before .before .before .before .before .before .before .before .before .before .before .before .args) .g)) (hold 0 0 none) again (readAhead ((c .before .before .before .before .before .before .before .before .before .before .before .before .before .before .args) .stream .now) ((c .before .before .before .before .before .before .before .before .before .before .before .before .before .before .args) .c) 1) ((c .before .before .before .before .before .before .before .before .before .before .before .before .before .before .args) .nodes .now) (((c .before .before .before .before .before .before .before .before .before .before .before .before .before .before .args) .used) + 1) 0 (((c .before .before .before .before .before .before .before .before .before .before .before .before .before .before .pre) .1) .formed) (omega (arith, ((c .before .before .before .before .before .before .before .before .before .before .before .before .before .before .pre) .1) .room)) (take-takes ((c .before .before .before .before .before .before .before .before .before .before .before .before .before .before .args) .stream .now) ((c .before .before .before .before .before .before .before .before .before .before .before .before .before .before .args) .c) ((sym ((c .before .before .before .before .before .before .before .before .before .before .before .take-next) .ensures)) ∙ (c .before .before .before .before .before .before .before .before .before .t) .given .1)) in
-    let e0 = next-in ((c .before .before .before .before .before .before .before .before .before .before .before .before .before .before .args) .stream .now) (ranks ((c .before .before .before .before .before .before .before .before .before .before .before .before .before .before .args) .ranking)) 0 (readers ((c .before .before .before .before .before .before .before .before .before .before .before .before .before .before .args) .stream .now) (ranks ((c .before .before .before .before .before .before .before .before .before .before .before .before .before .before .args) .ranking)) ((c .before .before .before .before .before .before .before .before .before .before .before .before .before .before .args) .g)) (hold 0 0 none) again ((c .before .before .before .before .before .before .before .before .before .before .before .before .before .before .args) .c) (49 ∷ []) (node 31 here unlined (any ⨾ expr ⨾ word 50)) (on next (58 ∷ []) (any ⨾ leaf 30) (refuse 61)) (take-gets ((c .before .before .before .before .before .before .before .before .before .before .before .before .before .before .args) .stream .now) ((c .before .before .before .before .before .before .before .before .before .before .before .before .before .before .args) .c) ((sym ((c .before .before .before .before .before .before .before .before .before .before .before .take-next) .ensures)) ∙ (c .before .before .before .before .before .before .before .before .before .t) .given .1)) (one-in 49 ((c .before .before .before .before .before .before .before .match2) .keys1)) in
+    let e0 = by-kind ((c .before .before .before .before .before .before .before .before .before .before .before .before .before .before .args) .stream .now) (ranks ((c .before .before .before .before .before .before .before .before .before .before .before .before .before .before .args) .ranking)) 0 (readers ((c .before .before .before .before .before .before .before .before .before .before .before .before .before .before .args) .stream .now) (ranks ((c .before .before .before .before .before .before .before .before .before .before .before .before .before .before .args) .ranking)) ((c .before .before .before .before .before .before .before .before .before .before .before .before .before .before .args) .g)) (hold 0 0 none) again ((c .before .before .before .before .before .before .before .before .before .before .before .before .before .before .args) .c) (49, node 31 here unlined (any ⨾ expr ⨾ word 50)) ((58, any ⨾ leaf 30) ∷ []) (refuse 61) (take-gets ((c .before .before .before .before .before .before .before .before .before .before .before .before .before .before .args) .stream .now) ((c .before .before .before .before .before .before .before .before .before .before .before .before .before .before .args) .c) ((sym ((c .before .before .before .before .before .before .before .before .before .before .before .take-next) .ensures)) ∙ (c .before .before .before .before .before .before .before .before .before .t) .given .1)) ((c .before .before .before .before .before .before .before .match2) .keys1) in
     e0 ∙ ap (wrap ((c .before .before .before .before .before .before .before .before .before .before .before .before .before .before .args) .stream .now) 31 unlined (((c .before .before .before .before .before .before .before .before .before .before .before .before .before .before .args) .c) .place)) (past _ f1 (stop _ (rw ((c .before .e2) .given .1) at ((c .before .before .before .before .before .sub) .ensures))))
 
 pub primary-same-length-2 : (t : ℕ) → primary-lts.Need-same-length-2 (
@@ -321,9 +321,9 @@ pub primary-returns-3 : (t : ℕ) → primary-lts.Need-returns-3 (
 unfolding read primary′
 primary-returns-3 t c =
     let f1 = any-fine ((c .before .before .before .before .before .before .before .before .before .before .before .before .before .before .before .before .before .before .args) .stream .now) (ranks ((c .before .before .before .before .before .before .before .before .before .before .before .before .before .before .before .before .before .before .args) .ranking)) 0 (readers ((c .before .before .before .before .before .before .before .before .before .before .before .before .before .before .before .before .before .before .args) .stream .now) (ranks ((c .before .before .before .before .before .before .before .before .before .before .before .before .before .before .before .before .before .before .args) .ranking)) ((c .before .before .before .before .before .before .before .before .before .before .before .before .before .before .before .before .before .before .args) .g)) (hold 0 0 none) again (readAhead ((c .before .before .before .before .before .before .before .before .before .before .before .before .before .before .before .before .before .before .args) .stream .now) ((c .before .before .before .before .before .before .before .before .before .before .before .before .before .before .before .before .before .before .args) .c) 1) ((c .before .before .before .before .before .before .before .before .before .before .before .before .before .before .before .before .before .before .args) .nodes .now) (((c .before .before .before .before .before .before .before .before .before .before .before .before .before .before .before .before .before .before .args) .used) + 1) 0 (((c .before .before .before .before .before .before .before .before .before .before .before .before .before .before .before .before .before .before .pre) .1) .formed) (omega (arith, ((c .before .before .before .before .before .before .before .before .before .before .before .before .before .before .before .before .before .before .pre) .1) .room)) (take-takes ((c .before .before .before .before .before .before .before .before .before .before .before .before .before .before .before .before .before .before .args) .stream .now) ((c .before .before .before .before .before .before .before .before .before .before .before .before .before .before .before .before .before .before .args) .c) ((sym ((c .before .before .before .before .before .before .before .before .before .before .before .before .before .before .before .take-next) .ensures)) ∙ (c .before .before .before .before .before .before .before .before .before .before .before .before .before .t) .given .1)) in
-    let e0 = next-in ((c .before .before .before .before .before .before .before .before .before .before .before .before .before .before .before .before .before .before .args) .stream .now) (ranks ((c .before .before .before .before .before .before .before .before .before .before .before .before .before .before .before .before .before .before .args) .ranking)) 0 (readers ((c .before .before .before .before .before .before .before .before .before .before .before .before .before .before .before .before .before .before .args) .stream .now) (ranks ((c .before .before .before .before .before .before .before .before .before .before .before .before .before .before .before .before .before .before .args) .ranking)) ((c .before .before .before .before .before .before .before .before .before .before .before .before .before .before .before .before .before .before .args) .g)) (hold 0 0 none) again ((c .before .before .before .before .before .before .before .before .before .before .before .before .before .before .before .before .before .before .args) .c) (49 ∷ []) (node 31 here unlined (any ⨾ expr ⨾ word 50)) (on next (58 ∷ []) (any ⨾ leaf 30) (refuse 61)) (take-gets ((c .before .before .before .before .before .before .before .before .before .before .before .before .before .before .before .before .before .before .args) .stream .now) ((c .before .before .before .before .before .before .before .before .before .before .before .before .before .before .before .before .before .before .args) .c) ((sym ((c .before .before .before .before .before .before .before .before .before .before .before .before .before .before .before .take-next) .ensures)) ∙ (c .before .before .before .before .before .before .before .before .before .before .before .before .before .t) .given .1)) (one-in 49 ((c .before .before .before .before .before .before .before .before .before .before .before .match2) .keys1)) in
+    let e0 = by-kind ((c .before .before .before .before .before .before .before .before .before .before .before .before .before .before .before .before .before .before .args) .stream .now) (ranks ((c .before .before .before .before .before .before .before .before .before .before .before .before .before .before .before .before .before .before .args) .ranking)) 0 (readers ((c .before .before .before .before .before .before .before .before .before .before .before .before .before .before .before .before .before .before .args) .stream .now) (ranks ((c .before .before .before .before .before .before .before .before .before .before .before .before .before .before .before .before .before .before .args) .ranking)) ((c .before .before .before .before .before .before .before .before .before .before .before .before .before .before .before .before .before .before .args) .g)) (hold 0 0 none) again ((c .before .before .before .before .before .before .before .before .before .before .before .before .before .before .before .before .before .before .args) .c) (49, node 31 here unlined (any ⨾ expr ⨾ word 50)) ((58, any ⨾ leaf 30) ∷ []) (refuse 61) (take-gets ((c .before .before .before .before .before .before .before .before .before .before .before .before .before .before .before .before .before .before .args) .stream .now) ((c .before .before .before .before .before .before .before .before .before .before .before .before .before .before .before .before .before .before .args) .c) ((sym ((c .before .before .before .before .before .before .before .before .before .before .before .before .before .before .before .take-next) .ensures)) ∙ (c .before .before .before .before .before .before .before .before .before .before .before .before .before .t) .given .1)) ((c .before .before .before .before .before .before .before .before .before .before .before .match2) .keys1) in
     let f2 = rw ((c .before .before .before .before .before .e3) .given .1) at ((c .before .before .before .before .before .before .before .before .before .sub) .ensures) in
-    let m3 = expect-meets ((c .before .before .before .before .before .before .before .before .before .before .before .before .before .before .before .before .before .before .args) .stream .now) (ranks ((c .before .before .before .before .before .before .before .before .before .before .before .before .before .before .before .before .before .before .args) .ranking)) 0 (readers ((c .before .before .before .before .before .before .before .before .before .before .before .before .before .before .before .before .before .before .args) .stream .now) (ranks ((c .before .before .before .before .before .before .before .before .before .before .before .before .before .before .before .before .before .before .args) .ranking)) ((c .before .before .before .before .before .before .before .before .before .before .before .before .before .before .before .before .before .before .args) .g)) (hold 0 0 none) again ((c .before .before .before .before .before .e3) .given .0 .0) 50 refl refl (((c .before .before .before .before .before .before .before .before .before .before .before .before .before .before .before .before .before .before .pre) .1) .formed) ((c .before .before .before .before .before .before .before .before .before .sub) .last .1 .0) ((c .before .before .before .before .before .e3) .given .0 .1 .0) 0 (omega (arith, f2 .room)) ((c .before .before .before .expect) .result) ((c .before .before .before .expect) .ensures) in
+    let m3 = expect-after ((c .before .before .before .before .before .before .before .before .before .before .before .before .before .before .before .before .before .before .args) .stream .now) (ranks ((c .before .before .before .before .before .before .before .before .before .before .before .before .before .before .before .before .before .before .args) .ranking)) 0 (readers ((c .before .before .before .before .before .before .before .before .before .before .before .before .before .before .before .before .before .before .args) .stream .now) (ranks ((c .before .before .before .before .before .before .before .before .before .before .before .before .before .before .before .before .before .before .args) .ranking)) ((c .before .before .before .before .before .before .before .before .before .before .before .before .before .before .before .before .before .before .args) .g)) (hold 0 0 none) again f2 50 refl refl (((c .before .before .before .before .before .before .before .before .before .before .before .before .before .before .before .before .before .before .pre) .1) .formed) 0 (omega arith) ((c .before .before .before .expect) .result) ((c .before .before .before .expect) .ensures) in
     e0 ∙ ap (wrap ((c .before .before .before .before .before .before .before .before .before .before .before .before .before .before .before .before .before .before .args) .stream .now) 31 unlined (((c .before .before .before .before .before .before .before .before .before .before .before .before .before .before .before .before .before .before .args) .c) .place)) (past _ f1 (past _ f2 (rw ((c .before .e4) .given .1) at m3)))
 
 pub primary-same-length-3 : (t : ℕ) → primary-lts.Need-same-length-3 (
@@ -355,9 +355,9 @@ pub primary-returns-4 : (t : ℕ) → primary-lts.Need-returns-4 (
 unfolding read primary′
 primary-returns-4 t c =
     let f1 = any-fine ((c .before .before .before .before .before .before .before .before .before .before .before .before .before .before .before .before .before .before .before .before .before .before .args) .stream .now) (ranks ((c .before .before .before .before .before .before .before .before .before .before .before .before .before .before .before .before .before .before .before .before .before .before .args) .ranking)) 0 (readers ((c .before .before .before .before .before .before .before .before .before .before .before .before .before .before .before .before .before .before .before .before .before .before .args) .stream .now) (ranks ((c .before .before .before .before .before .before .before .before .before .before .before .before .before .before .before .before .before .before .before .before .before .before .args) .ranking)) ((c .before .before .before .before .before .before .before .before .before .before .before .before .before .before .before .before .before .before .before .before .before .before .args) .g)) (hold 0 0 none) again (readAhead ((c .before .before .before .before .before .before .before .before .before .before .before .before .before .before .before .before .before .before .before .before .before .before .args) .stream .now) ((c .before .before .before .before .before .before .before .before .before .before .before .before .before .before .before .before .before .before .before .before .before .before .args) .c) 1) ((c .before .before .before .before .before .before .before .before .before .before .before .before .before .before .before .before .before .before .before .before .before .before .args) .nodes .now) (((c .before .before .before .before .before .before .before .before .before .before .before .before .before .before .before .before .before .before .before .before .before .before .args) .used) + 1) 0 (((c .before .before .before .before .before .before .before .before .before .before .before .before .before .before .before .before .before .before .before .before .before .before .pre) .1) .formed) (omega (arith, ((c .before .before .before .before .before .before .before .before .before .before .before .before .before .before .before .before .before .before .before .before .before .before .pre) .1) .room)) (take-takes ((c .before .before .before .before .before .before .before .before .before .before .before .before .before .before .before .before .before .before .before .before .before .before .args) .stream .now) ((c .before .before .before .before .before .before .before .before .before .before .before .before .before .before .before .before .before .before .before .before .before .before .args) .c) ((sym ((c .before .before .before .before .before .before .before .before .before .before .before .before .before .before .before .before .before .before .before .take-next) .ensures)) ∙ (c .before .before .before .before .before .before .before .before .before .before .before .before .before .before .before .before .before .t) .given .1)) in
-    let e0 = next-in ((c .before .before .before .before .before .before .before .before .before .before .before .before .before .before .before .before .before .before .before .before .before .before .args) .stream .now) (ranks ((c .before .before .before .before .before .before .before .before .before .before .before .before .before .before .before .before .before .before .before .before .before .before .args) .ranking)) 0 (readers ((c .before .before .before .before .before .before .before .before .before .before .before .before .before .before .before .before .before .before .before .before .before .before .args) .stream .now) (ranks ((c .before .before .before .before .before .before .before .before .before .before .before .before .before .before .before .before .before .before .before .before .before .before .args) .ranking)) ((c .before .before .before .before .before .before .before .before .before .before .before .before .before .before .before .before .before .before .before .before .before .before .args) .g)) (hold 0 0 none) again ((c .before .before .before .before .before .before .before .before .before .before .before .before .before .before .before .before .before .before .before .before .before .before .args) .c) (49 ∷ []) (node 31 here unlined (any ⨾ expr ⨾ word 50)) (on next (58 ∷ []) (any ⨾ leaf 30) (refuse 61)) (take-gets ((c .before .before .before .before .before .before .before .before .before .before .before .before .before .before .before .before .before .before .before .before .before .before .args) .stream .now) ((c .before .before .before .before .before .before .before .before .before .before .before .before .before .before .before .before .before .before .before .before .before .before .args) .c) ((sym ((c .before .before .before .before .before .before .before .before .before .before .before .before .before .before .before .before .before .before .before .take-next) .ensures)) ∙ (c .before .before .before .before .before .before .before .before .before .before .before .before .before .before .before .before .before .t) .given .1)) (one-in 49 ((c .before .before .before .before .before .before .before .before .before .before .before .before .before .before .before .match2) .keys1)) in
+    let e0 = by-kind ((c .before .before .before .before .before .before .before .before .before .before .before .before .before .before .before .before .before .before .before .before .before .before .args) .stream .now) (ranks ((c .before .before .before .before .before .before .before .before .before .before .before .before .before .before .before .before .before .before .before .before .before .before .args) .ranking)) 0 (readers ((c .before .before .before .before .before .before .before .before .before .before .before .before .before .before .before .before .before .before .before .before .before .before .args) .stream .now) (ranks ((c .before .before .before .before .before .before .before .before .before .before .before .before .before .before .before .before .before .before .before .before .before .before .args) .ranking)) ((c .before .before .before .before .before .before .before .before .before .before .before .before .before .before .before .before .before .before .before .before .before .before .args) .g)) (hold 0 0 none) again ((c .before .before .before .before .before .before .before .before .before .before .before .before .before .before .before .before .before .before .before .before .before .before .args) .c) (49, node 31 here unlined (any ⨾ expr ⨾ word 50)) ((58, any ⨾ leaf 30) ∷ []) (refuse 61) (take-gets ((c .before .before .before .before .before .before .before .before .before .before .before .before .before .before .before .before .before .before .before .before .before .before .args) .stream .now) ((c .before .before .before .before .before .before .before .before .before .before .before .before .before .before .before .before .before .before .before .before .before .before .args) .c) ((sym ((c .before .before .before .before .before .before .before .before .before .before .before .before .before .before .before .before .before .before .before .take-next) .ensures)) ∙ (c .before .before .before .before .before .before .before .before .before .before .before .before .before .before .before .before .before .t) .given .1)) ((c .before .before .before .before .before .before .before .before .before .before .before .before .before .before .before .match2) .keys1) in
     let f2 = rw ((c .before .before .before .before .before .before .before .before .before .e3) .given .1) at ((c .before .before .before .before .before .before .before .before .before .before .before .before .before .sub) .ensures) in
-    let m3 = expect-meets ((c .before .before .before .before .before .before .before .before .before .before .before .before .before .before .before .before .before .before .before .before .before .before .args) .stream .now) (ranks ((c .before .before .before .before .before .before .before .before .before .before .before .before .before .before .before .before .before .before .before .before .before .before .args) .ranking)) 0 (readers ((c .before .before .before .before .before .before .before .before .before .before .before .before .before .before .before .before .before .before .before .before .before .before .args) .stream .now) (ranks ((c .before .before .before .before .before .before .before .before .before .before .before .before .before .before .before .before .before .before .before .before .before .before .args) .ranking)) ((c .before .before .before .before .before .before .before .before .before .before .before .before .before .before .before .before .before .before .before .before .before .before .args) .g)) (hold 0 0 none) again ((c .before .before .before .before .before .before .before .before .before .e3) .given .0 .0) 50 refl refl (((c .before .before .before .before .before .before .before .before .before .before .before .before .before .before .before .before .before .before .before .before .before .before .pre) .1) .formed) ((c .before .before .before .before .before .before .before .before .before .before .before .before .before .sub) .last .1 .0) ((c .before .before .before .before .before .before .before .before .before .e3) .given .0 .1 .0) 0 (omega (arith, f2 .room)) ((c .before .before .before .before .before .before .before .expect) .result) ((c .before .before .before .before .before .before .before .expect) .ensures) in
+    let m3 = expect-after ((c .before .before .before .before .before .before .before .before .before .before .before .before .before .before .before .before .before .before .before .before .before .before .args) .stream .now) (ranks ((c .before .before .before .before .before .before .before .before .before .before .before .before .before .before .before .before .before .before .before .before .before .before .args) .ranking)) 0 (readers ((c .before .before .before .before .before .before .before .before .before .before .before .before .before .before .before .before .before .before .before .before .before .before .args) .stream .now) (ranks ((c .before .before .before .before .before .before .before .before .before .before .before .before .before .before .before .before .before .before .before .before .before .before .args) .ranking)) ((c .before .before .before .before .before .before .before .before .before .before .before .before .before .before .before .before .before .before .before .before .before .before .args) .g)) (hold 0 0 none) again f2 50 refl refl (((c .before .before .before .before .before .before .before .before .before .before .before .before .before .before .before .before .before .before .before .before .before .before .pre) .1) .formed) 0 (omega arith) ((c .before .before .before .before .before .before .before .expect) .result) ((c .before .before .before .before .before .before .before .expect) .ensures) in
     let f3 = rw ((c .before .before .before .before .before .f) .given .1) at m3 in
     let g = both _ f1 (both _ f2 f3 (omega arith)) (omega arith) in
     let f = alter e0 (over 31 unlined (((c .before .before .before .before .before .before .before .before .before .before .before .before .before .before .before .before .before .before .before .before .before .before .args) .c) .place) 0 g ((c .before .before .put) .ensures) refl) in
@@ -391,7 +391,7 @@ pub primary-returns-5 : (t : ℕ) → primary-lts.Need-returns-5 (
 ) (primary-at t) primary.Post
 unfolding read primary′
 primary-returns-5 t c =
-    let e0 = next-out ((c .before .before .before .before .before .before .before .before .before .before .before .args) .stream .now) (ranks ((c .before .before .before .before .before .before .before .before .before .before .before .args) .ranking)) 0 (readers ((c .before .before .before .before .before .before .before .before .before .before .before .args) .stream .now) (ranks ((c .before .before .before .before .before .before .before .before .before .before .before .args) .ranking)) ((c .before .before .before .before .before .before .before .before .before .before .before .args) .g)) (hold 0 0 none) again ((c .before .before .before .before .before .before .before .before .before .before .before .args) .c) (49 ∷ []) (node 31 here unlined (any ⨾ expr ⨾ word 50)) (on next (58 ∷ []) (any ⨾ leaf 30) (refuse 61)) (take-gets ((c .before .before .before .before .before .before .before .before .before .before .before .args) .stream .now) ((c .before .before .before .before .before .before .before .before .before .before .before .args) .c) ((sym ((c .before .before .before .before .before .before .before .before .take-next) .ensures)) ∙ (c .before .before .before .before .before .before .t) .given .1)) (alike (49 ∷ []) ((c .before .before .before .before .match2) .keys2)) ∙ next-in ((c .before .before .before .before .before .before .before .before .before .before .before .args) .stream .now) (ranks ((c .before .before .before .before .before .before .before .before .before .before .before .args) .ranking)) 0 (readers ((c .before .before .before .before .before .before .before .before .before .before .before .args) .stream .now) (ranks ((c .before .before .before .before .before .before .before .before .before .before .before .args) .ranking)) ((c .before .before .before .before .before .before .before .before .before .before .before .args) .g)) (hold 0 0 none) again (readAhead ((c .before .before .before .before .before .before .before .before .before .before .before .args) .stream .now) ((c .before .before .before .before .before .before .before .before .before .before .before .args) .c) 1) (58 ∷ []) (any ⨾ leaf 30) (refuse 61) (got-again ((c .before .before .before .before .before .before .before .before .before .before .before .args) .stream .now) ((c .before .before .before .before .before .before .before .before .before .before .before .args) .c) (take-gets ((c .before .before .before .before .before .before .before .before .before .before .before .args) .stream .now) ((c .before .before .before .before .before .before .before .before .before .before .before .args) .c) ((sym ((c .before .before .before .before .before .before .before .before .take-next) .ensures)) ∙ (c .before .before .before .before .before .before .t) .given .1))) (one-in 58 ((c .before .before .before .before .match2) .keys2)) in
+    let e0 = by-kind ((c .before .before .before .before .before .before .before .before .before .before .before .args) .stream .now) (ranks ((c .before .before .before .before .before .before .before .before .before .before .before .args) .ranking)) 0 (readers ((c .before .before .before .before .before .before .before .before .before .before .before .args) .stream .now) (ranks ((c .before .before .before .before .before .before .before .before .before .before .before .args) .ranking)) ((c .before .before .before .before .before .before .before .before .before .before .before .args) .g)) (hold 0 0 none) again ((c .before .before .before .before .before .before .before .before .before .before .before .args) .c) (49, node 31 here unlined (any ⨾ expr ⨾ word 50)) ((58, any ⨾ leaf 30) ∷ []) (refuse 61) (take-gets ((c .before .before .before .before .before .before .before .before .before .before .before .args) .stream .now) ((c .before .before .before .before .before .before .before .before .before .before .before .args) .c) ((sym ((c .before .before .before .before .before .before .before .before .take-next) .ensures)) ∙ (c .before .before .before .before .before .before .t) .given .1)) ((c .before .before .before .before .match2) .keys2) in
     let y = any-says ((c .before .before .before .before .before .before .before .before .before .before .before .args) .stream .now) (ranks ((c .before .before .before .before .before .before .before .before .before .before .before .args) .ranking)) 0 (readers ((c .before .before .before .before .before .before .before .before .before .before .before .args) .stream .now) (ranks ((c .before .before .before .before .before .before .before .before .before .before .before .args) .ranking)) ((c .before .before .before .before .before .before .before .before .before .before .before .args) .g)) (hold 0 0 none) again (readAhead ((c .before .before .before .before .before .before .before .before .before .before .before .args) .stream .now) ((c .before .before .before .before .before .before .before .before .before .before .before .args) .c) 1) (take-takes ((c .before .before .before .before .before .before .before .before .before .before .before .args) .stream .now) ((c .before .before .before .before .before .before .before .before .before .before .before .args) .c) ((sym ((c .before .before .before .before .before .before .before .before .take-next) .ensures)) ∙ (c .before .before .before .before .before .before .t) .given .1)) in
     let f = alter e0 (leaf-after ((c .before .before .before .before .before .before .before .before .before .before .before .args) .stream .now) (ranks ((c .before .before .before .before .before .before .before .before .before .before .before .args) .ranking)) 0 (readers ((c .before .before .before .before .before .before .before .before .before .before .before .args) .stream .now) (ranks ((c .before .before .before .before .before .before .before .before .before .before .before .args) .ranking)) ((c .before .before .before .before .before .before .before .before .before .before .before .args) .g)) (hold 0 0 none) again (readAhead ((c .before .before .before .before .before .before .before .before .before .before .before .args) .stream .now) ((c .before .before .before .before .before .before .before .before .before .before .before .args) .c) 1) ((c .before .before .before .before .before .before .before .before .before .before .before .args) .nodes .now) ((c .before .before .before .before .before .before .before .before .before .before .before .args) .used) 0 30 (((c .before .before .before .before .before .before .before .before .before .before .before .pre) .1) .formed) (omega (arith, ((c .before .before .before .before .before .before .before .before .before .before .before .pre) .1) .room)) ((c .before .before .put2) .ensures) any y (took-next ((c .before .before .before .before .before .before .before .before .before .before .before .args) .stream .now) (readAhead ((c .before .before .before .before .before .before .before .before .before .before .before .args) .stream .now) ((c .before .before .before .before .before .before .before .before .before .before .before .args) .c) 1) (take-takes ((c .before .before .before .before .before .before .before .before .before .before .before .args) .stream .now) ((c .before .before .before .before .before .before .before .before .before .before .before .args) .c) ((sym ((c .before .before .before .before .before .before .before .before .take-next) .ensures)) ∙ (c .before .before .before .before .before .before .t) .given .1)))) in
     (f, tag-is f 30 (ap (last-from 0) e0 ∙ ap (λ (z : Out). last-from 0 (then z (read ((c .before .before .before .before .before .before .before .before .before .before .before .args) .stream .now) (ranks ((c .before .before .before .before .before .before .before .before .before .before .before .args) .ranking)) 0 (readers ((c .before .before .before .before .before .before .before .before .before .before .before .args) .stream .now) (ranks ((c .before .before .before .before .before .before .before .before .before .before .before .args) .ranking)) ((c .before .before .before .before .before .before .before .before .before .before .before .args) .g)) (hold 0 0 none) (leaf 30) again))) y))
@@ -409,8 +409,4 @@ pub primary-returns-6 : (t : ℕ) → primary-lts.Need-returns-6 (
   refuse-reads.Learnt,
 ) (primary-at t) primary.Post
 unfolding read primary′
-primary-returns-6 t c =
-    next-out ((c .before .before .before .before .before .before .before .before .args) .stream .now) (ranks ((c .before .before .before .before .before .before .before .before .args) .ranking)) 0 (readers ((c .before .before .before .before .before .before .before .before .args) .stream .now) (ranks ((c .before .before .before .before .before .before .before .before .args) .ranking)) ((c .before .before .before .before .before .before .before .before .args) .g)) (hold 0 0 none) again ((c .before .before .before .before .before .before .before .before .args) .c) (49 ∷ []) (node 31 here unlined (any ⨾ expr ⨾ word 50)) (on next (58 ∷ []) (any ⨾ leaf 30) (refuse 61)) (take-gets ((c .before .before .before .before .before .before .before .before .args) .stream .now) ((c .before .before .before .before .before .before .before .before .args) .c) ((sym ((c .before .before .before .before .before .take-next) .ensures)) ∙ (c .before .before .before .t) .given .1)) (one-out 49 ((c .before .match2) .rest .0 .1))
-    ∙ next-out ((c .before .before .before .before .before .before .before .before .args) .stream .now) (ranks ((c .before .before .before .before .before .before .before .before .args) .ranking)) 0 (readers ((c .before .before .before .before .before .before .before .before .args) .stream .now) (ranks ((c .before .before .before .before .before .before .before .before .args) .ranking)) ((c .before .before .before .before .before .before .before .before .args) .g)) (hold 0 0 none) again (readAhead ((c .before .before .before .before .before .before .before .before .args) .stream .now) ((c .before .before .before .before .before .before .before .before .args) .c) 1) (58 ∷ []) (any ⨾ leaf 30) (refuse 61) (got-again ((c .before .before .before .before .before .before .before .before .args) .stream .now) ((c .before .before .before .before .before .before .before .before .args) .c) (take-gets ((c .before .before .before .before .before .before .before .before .args) .stream .now) ((c .before .before .before .before .before .before .before .before .args) .c) ((sym ((c .before .before .before .before .before .take-next) .ensures)) ∙ (c .before .before .before .t) .given .1))) (one-out 58 ((c .before .match2) .rest .1))
-    ∙ refused ((c .before .before .before .before .before .before .before .before .args) .stream .now) (ranks ((c .before .before .before .before .before .before .before .before .args) .ranking)) 0 (readers ((c .before .before .before .before .before .before .before .before .args) .stream .now) (ranks ((c .before .before .before .before .before .before .before .before .args) .ranking)) ((c .before .before .before .before .before .before .before .before .args) .g)) (hold 0 0 none) again ((c .before .before .before .before .before .before .before .before .args) .c) 61 (take-gets ((c .before .before .before .before .before .before .before .before .args) .stream .now) ((c .before .before .before .before .before .before .before .before .args) .c) ((sym ((c .before .before .before .before .before .take-next) .ensures)) ∙ (c .before .before .before .t) .given .1))
-    ∙ ap fail (sym ((c .refuse) .ensures))
+primary-returns-6 t c = by-others ((c .before .before .before .before .before .before .before .before .args) .stream .now) (ranks ((c .before .before .before .before .before .before .before .before .args) .ranking)) 0 (readers ((c .before .before .before .before .before .before .before .before .args) .stream .now) (ranks ((c .before .before .before .before .before .before .before .before .args) .ranking)) ((c .before .before .before .before .before .before .before .before .args) .g)) (hold 0 0 none) again ((c .before .before .before .before .before .before .before .before .args) .c) (49, node 31 here unlined (any ⨾ expr ⨾ word 50)) ((58, any ⨾ leaf 30) ∷ []) (refuse 61) (take-gets ((c .before .before .before .before .before .before .before .before .args) .stream .now) ((c .before .before .before .before .before .before .before .before .args) .c) ((sym ((c .before .before .before .before .before .take-next) .ensures)) ∙ (c .before .before .before .t) .given .1)) ((c .before .match2) .rest .0 .1) ((c .before .match2) .rest .1) ∙ refused ((c .before .before .before .before .before .before .before .before .args) .stream .now) (ranks ((c .before .before .before .before .before .before .before .before .args) .ranking)) 0 (readers ((c .before .before .before .before .before .before .before .before .args) .stream .now) (ranks ((c .before .before .before .before .before .before .before .before .args) .ranking)) ((c .before .before .before .before .before .before .before .before .args) .g)) (hold 0 0 none) again ((c .before .before .before .before .before .before .before .before .args) .c) 61 (take-gets ((c .before .before .before .before .before .before .before .before .args) .stream .now) ((c .before .before .before .before .before .before .before .before .args) .c) ((sym ((c .before .before .before .before .before .take-next) .ensures)) ∙ (c .before .before .before .t) .given .1)) ∙ ap fail (sym ((c .refuse) .ensures))

@@ -15,15 +15,15 @@ use Prim.Native.Nat.{ℕ, _+_, _-_}
 use native.Mathlib.Omega.{arith}
 use Rattle.operators.specs.Ranks.{ranks}
 use Rattle.tree.specs.Forest.{none}
-use Rattle.grammar.specs.Reading.{read, hold, wrap, last}
+use Rattle.grammar.specs.Reading.{read, hold, wrap}
 use Rattle.grammar.specs.Levels.{readers}
 use Rattle.grammar.specs.Term.{opening}
 use Rattle.parser.specs.Contract.{again}
 use Rattle.stream.proofs.Words.{few}
 use Rattle.parser.proofs.Steps.{took-kind}
-use Rattle.parser.proofs.Kit.{kept, stop, past, both, over}
+use Rattle.parser.proofs.Kit.{kept, ready-at, stop, past, both, over}
 use Rattle.parser.proofs.Tokens.{ready-after, word-fail, word-fine}
-use Rattle.parser.proofs.Looks.{expect-meets}
+use Rattle.parser.proofs.Looks.{expect-after}
 use Rattle.grammar.specs.Productions.{repeatstat}
 
 pub repeats-expect-next-requires : (t : ℕ) → repeats-lts.Need-expect-next-requires (
@@ -109,7 +109,7 @@ pub repeats-block-requires : (t : ℕ) → repeats-lts.Need-block-requires (
   close-reads.Asked,
   close-reads.Learnt,
 ) (repeats-at t) repeats.Post
-repeats-block-requires t c κs = (omega (arith, (c .before .before .before .before .before .before .before .pre) .0), ready-after (((c .before .before .before .before .before .before .before .args) .used) + 1) 0 (((c .before .before .before .before .before .before .before .pre) .1 .0) .formed) (took-kind ((c .before .before .before .before .before .before .before .args) .stream .now) ((c .before .before .before .before .before .before .before .args) .c) 16 ((sym ((c .before .before .before .before .expect-next) .ensures)) ∙ (c .before .before .d) .given .1) .0) (omega (arith, ((c .before .before .before .before .before .before .before .pre) .1 .0) .room)))
+repeats-block-requires t c κs = (omega (arith, (c .before .before .before .before .before .before .before .pre) .0), ready-after (((c .before .before .before .before .before .before .before .pre) .1 .0) .formed) (took-kind ((c .before .before .before .before .before .before .before .args) .stream .now) ((c .before .before .before .before .before .before .before .args) .c) 16 ((sym ((c .before .before .before .before .expect-next) .ensures)) ∙ (c .before .before .d) .given .1)) (omega (arith, ((c .before .before .before .before .before .before .before .pre) .1 .0) .room)))
 
 pub repeats-enum-known-e-2 : (t : ℕ) → repeats-lts.Need-enum-known-e-2 (
   expect-next-reads.Asked,
@@ -195,9 +195,9 @@ pub repeats-sub-requires : (t : ℕ) → repeats-lts.Need-sub-requires (
 ) (repeats-at t) repeats.Post
 repeats-sub-requires t c κs =
     let f2 = rw ((c .before .before .before .before .before .before .e3) .given .1) at ((c .before .before .before .before .before .before .before .before .before .before .block) .ensures) in
-    let m3 = expect-meets ((c .before .before .before .before .before .before .before .before .before .before .before .before .before .before .before .before .before .before .args) .stream .now) (ranks ((c .before .before .before .before .before .before .before .before .before .before .before .before .before .before .before .before .before .before .args) .ranking)) 0 (readers ((c .before .before .before .before .before .before .before .before .before .before .before .before .before .before .before .before .before .before .args) .stream .now) (ranks ((c .before .before .before .before .before .before .before .before .before .before .before .before .before .before .before .before .before .before .args) .ranking)) ((c .before .before .before .before .before .before .before .before .before .before .before .before .before .before .before .before .before .before .args) .g)) (hold 0 0 none) again ((c .before .before .before .before .before .before .e3) .given .0 .0) 20 refl refl (((c .before .before .before .before .before .before .before .before .before .before .before .before .before .before .before .before .before .before .pre) .1 .0) .formed) ((c .before .before .before .before .before .before .before .before .before .before .block) .last .1 .0) ((c .before .before .before .before .before .before .e3) .given .0 .1 .0) 0 (omega (arith, f2 .room)) ((c .before .before .before .before .expect) .result) ((c .before .before .before .before .expect) .ensures) in
+    let m3 = expect-after ((c .before .before .before .before .before .before .before .before .before .before .before .before .before .before .before .before .before .before .args) .stream .now) (ranks ((c .before .before .before .before .before .before .before .before .before .before .before .before .before .before .before .before .before .before .args) .ranking)) 0 (readers ((c .before .before .before .before .before .before .before .before .before .before .before .before .before .before .before .before .before .before .args) .stream .now) (ranks ((c .before .before .before .before .before .before .before .before .before .before .before .before .before .before .before .before .before .before .args) .ranking)) ((c .before .before .before .before .before .before .before .before .before .before .before .before .before .before .before .before .before .before .args) .g)) (hold 0 0 none) again f2 20 refl refl (((c .before .before .before .before .before .before .before .before .before .before .before .before .before .before .before .before .before .before .pre) .1 .0) .formed) 0 (omega arith) ((c .before .before .before .before .expect) .result) ((c .before .before .before .before .expect) .ensures) in
     let f3 = rw ((c .before .before .f) .given .1) at m3 in
-    (omega (arith, (c .before .before .before .before .before .before .before .before .before .before .before .before .before .before .before .before .before .before .pre) .0), record { formed = ((c .before .before .before .before .before .before .before .before .before .before .before .before .before .before .before .before .before .before .pre) .1 .0) .formed; at = f3 .at; room = omega (arith, f3 .room) })
+    (omega (arith, (c .before .before .before .before .before .before .before .before .before .before .before .before .before .before .before .before .before .before .pre) .0), ready-at (((c .before .before .before .before .before .before .before .before .before .before .before .before .before .before .before .before .before .before .pre) .1 .0) .formed) f3 (omega arith))
 
 pub repeats-enum-known-e-5 : (t : ℕ) → repeats-lts.Need-enum-known-e-5 (
   expect-next-reads.Asked,
@@ -241,7 +241,7 @@ pub repeats-close-requires : (t : ℕ) → repeats-lts.Need-close-requires (
 ) (repeats-at t) repeats.Post
 repeats-close-requires t c κs =
     let f2 = rw ((c .before .before .before .before .before .before .before .before .before .before .before .before .before .e3) .given .1) at ((c .before .before .before .before .before .before .before .before .before .before .before .before .before .before .before .before .before .block) .ensures) in
-    let m3 = expect-meets ((c .before .before .before .before .before .before .before .before .before .before .before .before .before .before .before .before .before .before .before .before .before .before .before .before .before .args) .stream .now) (ranks ((c .before .before .before .before .before .before .before .before .before .before .before .before .before .before .before .before .before .before .before .before .before .before .before .before .before .args) .ranking)) 0 (readers ((c .before .before .before .before .before .before .before .before .before .before .before .before .before .before .before .before .before .before .before .before .before .before .before .before .before .args) .stream .now) (ranks ((c .before .before .before .before .before .before .before .before .before .before .before .before .before .before .before .before .before .before .before .before .before .before .before .before .before .args) .ranking)) ((c .before .before .before .before .before .before .before .before .before .before .before .before .before .before .before .before .before .before .before .before .before .before .before .before .before .args) .g)) (hold 0 0 none) again ((c .before .before .before .before .before .before .before .before .before .before .before .before .before .e3) .given .0 .0) 20 refl refl (((c .before .before .before .before .before .before .before .before .before .before .before .before .before .before .before .before .before .before .before .before .before .before .before .before .before .pre) .1 .0) .formed) ((c .before .before .before .before .before .before .before .before .before .before .before .before .before .before .before .before .before .block) .last .1 .0) ((c .before .before .before .before .before .before .before .before .before .before .before .before .before .e3) .given .0 .1 .0) 0 (omega (arith, f2 .room)) ((c .before .before .before .before .before .before .before .before .before .before .before .expect) .result) ((c .before .before .before .before .before .before .before .before .before .before .before .expect) .ensures) in
+    let m3 = expect-after ((c .before .before .before .before .before .before .before .before .before .before .before .before .before .before .before .before .before .before .before .before .before .before .before .before .before .args) .stream .now) (ranks ((c .before .before .before .before .before .before .before .before .before .before .before .before .before .before .before .before .before .before .before .before .before .before .before .before .before .args) .ranking)) 0 (readers ((c .before .before .before .before .before .before .before .before .before .before .before .before .before .before .before .before .before .before .before .before .before .before .before .before .before .args) .stream .now) (ranks ((c .before .before .before .before .before .before .before .before .before .before .before .before .before .before .before .before .before .before .before .before .before .before .before .before .before .args) .ranking)) ((c .before .before .before .before .before .before .before .before .before .before .before .before .before .before .before .before .before .before .before .before .before .before .before .before .before .args) .g)) (hold 0 0 none) again f2 20 refl refl (((c .before .before .before .before .before .before .before .before .before .before .before .before .before .before .before .before .before .before .before .before .before .before .before .before .before .pre) .1 .0) .formed) 0 (omega arith) ((c .before .before .before .before .before .before .before .before .before .before .before .expect) .result) ((c .before .before .before .before .before .before .before .before .before .before .before .expect) .ensures) in
     let f3 = rw ((c .before .before .before .before .before .before .before .before .before .f) .given .1) at m3 in
     let f4 = rw ((c .before .before .h) .given .1) at ((c .before .before .before .before .before .before .sub) .ensures) in
     omega (arith, f2 .grown, f3 .grown, f4 .grown)
@@ -307,7 +307,7 @@ unfolding read repeatstat
 repeats-returns-3 t c =
     let f1 = word-fine ((c .before .before .before .before .before .before .before .before .before .before .before .before .before .before .before .before .before .args) .stream .now) (ranks ((c .before .before .before .before .before .before .before .before .before .before .before .before .before .before .before .before .before .args) .ranking)) 0 (readers ((c .before .before .before .before .before .before .before .before .before .before .before .before .before .before .before .before .before .args) .stream .now) (ranks ((c .before .before .before .before .before .before .before .before .before .before .before .before .before .before .before .before .before .args) .ranking)) ((c .before .before .before .before .before .before .before .before .before .before .before .before .before .before .before .before .before .args) .g)) (hold 0 0 none) again ((c .before .before .before .before .before .before .before .before .before .before .before .before .before .before .before .before .before .args) .c) ((c .before .before .before .before .before .before .before .before .before .before .before .before .before .before .before .before .before .args) .nodes .now) (((c .before .before .before .before .before .before .before .before .before .before .before .before .before .before .before .before .before .args) .used) + 1) 0 (((c .before .before .before .before .before .before .before .before .before .before .before .before .before .before .before .before .before .pre) .1 .0) .formed) (omega (arith, ((c .before .before .before .before .before .before .before .before .before .before .before .before .before .before .before .before .before .pre) .1 .0) .room)) 16 refl refl ((sym ((c .before .before .before .before .before .before .before .before .before .before .before .before .before .before .expect-next) .ensures)) ∙ (c .before .before .before .before .before .before .before .before .before .before .before .before .d) .given .1) in
     let f2 = rw ((c .before .before .before .before .before .e3) .given .1) at ((c .before .before .before .before .before .before .before .before .before .block) .ensures) in
-    let m3 = expect-meets ((c .before .before .before .before .before .before .before .before .before .before .before .before .before .before .before .before .before .args) .stream .now) (ranks ((c .before .before .before .before .before .before .before .before .before .before .before .before .before .before .before .before .before .args) .ranking)) 0 (readers ((c .before .before .before .before .before .before .before .before .before .before .before .before .before .before .before .before .before .args) .stream .now) (ranks ((c .before .before .before .before .before .before .before .before .before .before .before .before .before .before .before .before .before .args) .ranking)) ((c .before .before .before .before .before .before .before .before .before .before .before .before .before .before .before .before .before .args) .g)) (hold 0 0 none) again ((c .before .before .before .before .before .e3) .given .0 .0) 20 refl refl (((c .before .before .before .before .before .before .before .before .before .before .before .before .before .before .before .before .before .pre) .1 .0) .formed) ((c .before .before .before .before .before .before .before .before .before .block) .last .1 .0) ((c .before .before .before .before .before .e3) .given .0 .1 .0) 0 (omega (arith, f2 .room)) ((c .before .before .before .expect) .result) ((c .before .before .before .expect) .ensures) in
+    let m3 = expect-after ((c .before .before .before .before .before .before .before .before .before .before .before .before .before .before .before .before .before .args) .stream .now) (ranks ((c .before .before .before .before .before .before .before .before .before .before .before .before .before .before .before .before .before .args) .ranking)) 0 (readers ((c .before .before .before .before .before .before .before .before .before .before .before .before .before .before .before .before .before .args) .stream .now) (ranks ((c .before .before .before .before .before .before .before .before .before .before .before .before .before .before .before .before .before .args) .ranking)) ((c .before .before .before .before .before .before .before .before .before .before .before .before .before .before .before .before .before .args) .g)) (hold 0 0 none) again f2 20 refl refl (((c .before .before .before .before .before .before .before .before .before .before .before .before .before .before .before .before .before .pre) .1 .0) .formed) 0 (omega arith) ((c .before .before .before .expect) .result) ((c .before .before .before .expect) .ensures) in
     ap (wrap ((c .before .before .before .before .before .before .before .before .before .before .before .before .before .before .before .before .before .args) .stream .now) 8 opening (((c .before .before .before .before .before .before .before .before .before .before .before .before .before .before .before .before .before .args) .c) .place)) (past _ f1 (past _ f2 (stop _ (rw ((c .before .e4) .given .1) at m3))))
 
 pub repeats-same-length-3 : (t : ℕ) → repeats-lts.Need-same-length-3 (
@@ -340,7 +340,7 @@ unfolding read repeatstat
 repeats-returns-4 t c =
     let f1 = word-fine ((c .before .before .before .before .before .before .before .before .before .before .before .before .before .before .before .before .before .before .before .before .before .before .before .before .args) .stream .now) (ranks ((c .before .before .before .before .before .before .before .before .before .before .before .before .before .before .before .before .before .before .before .before .before .before .before .before .args) .ranking)) 0 (readers ((c .before .before .before .before .before .before .before .before .before .before .before .before .before .before .before .before .before .before .before .before .before .before .before .before .args) .stream .now) (ranks ((c .before .before .before .before .before .before .before .before .before .before .before .before .before .before .before .before .before .before .before .before .before .before .before .before .args) .ranking)) ((c .before .before .before .before .before .before .before .before .before .before .before .before .before .before .before .before .before .before .before .before .before .before .before .before .args) .g)) (hold 0 0 none) again ((c .before .before .before .before .before .before .before .before .before .before .before .before .before .before .before .before .before .before .before .before .before .before .before .before .args) .c) ((c .before .before .before .before .before .before .before .before .before .before .before .before .before .before .before .before .before .before .before .before .before .before .before .before .args) .nodes .now) (((c .before .before .before .before .before .before .before .before .before .before .before .before .before .before .before .before .before .before .before .before .before .before .before .before .args) .used) + 1) 0 (((c .before .before .before .before .before .before .before .before .before .before .before .before .before .before .before .before .before .before .before .before .before .before .before .before .pre) .1 .0) .formed) (omega (arith, ((c .before .before .before .before .before .before .before .before .before .before .before .before .before .before .before .before .before .before .before .before .before .before .before .before .pre) .1 .0) .room)) 16 refl refl ((sym ((c .before .before .before .before .before .before .before .before .before .before .before .before .before .before .before .before .before .before .before .before .before .expect-next) .ensures)) ∙ (c .before .before .before .before .before .before .before .before .before .before .before .before .before .before .before .before .before .before .before .d) .given .1) in
     let f2 = rw ((c .before .before .before .before .before .before .before .before .before .before .before .before .e3) .given .1) at ((c .before .before .before .before .before .before .before .before .before .before .before .before .before .before .before .before .block) .ensures) in
-    let m3 = expect-meets ((c .before .before .before .before .before .before .before .before .before .before .before .before .before .before .before .before .before .before .before .before .before .before .before .before .args) .stream .now) (ranks ((c .before .before .before .before .before .before .before .before .before .before .before .before .before .before .before .before .before .before .before .before .before .before .before .before .args) .ranking)) 0 (readers ((c .before .before .before .before .before .before .before .before .before .before .before .before .before .before .before .before .before .before .before .before .before .before .before .before .args) .stream .now) (ranks ((c .before .before .before .before .before .before .before .before .before .before .before .before .before .before .before .before .before .before .before .before .before .before .before .before .args) .ranking)) ((c .before .before .before .before .before .before .before .before .before .before .before .before .before .before .before .before .before .before .before .before .before .before .before .before .args) .g)) (hold 0 0 none) again ((c .before .before .before .before .before .before .before .before .before .before .before .before .e3) .given .0 .0) 20 refl refl (((c .before .before .before .before .before .before .before .before .before .before .before .before .before .before .before .before .before .before .before .before .before .before .before .before .pre) .1 .0) .formed) ((c .before .before .before .before .before .before .before .before .before .before .before .before .before .before .before .before .block) .last .1 .0) ((c .before .before .before .before .before .before .before .before .before .before .before .before .e3) .given .0 .1 .0) 0 (omega (arith, f2 .room)) ((c .before .before .before .before .before .before .before .before .before .before .expect) .result) ((c .before .before .before .before .before .before .before .before .before .before .expect) .ensures) in
+    let m3 = expect-after ((c .before .before .before .before .before .before .before .before .before .before .before .before .before .before .before .before .before .before .before .before .before .before .before .before .args) .stream .now) (ranks ((c .before .before .before .before .before .before .before .before .before .before .before .before .before .before .before .before .before .before .before .before .before .before .before .before .args) .ranking)) 0 (readers ((c .before .before .before .before .before .before .before .before .before .before .before .before .before .before .before .before .before .before .before .before .before .before .before .before .args) .stream .now) (ranks ((c .before .before .before .before .before .before .before .before .before .before .before .before .before .before .before .before .before .before .before .before .before .before .before .before .args) .ranking)) ((c .before .before .before .before .before .before .before .before .before .before .before .before .before .before .before .before .before .before .before .before .before .before .before .before .args) .g)) (hold 0 0 none) again f2 20 refl refl (((c .before .before .before .before .before .before .before .before .before .before .before .before .before .before .before .before .before .before .before .before .before .before .before .before .pre) .1 .0) .formed) 0 (omega arith) ((c .before .before .before .before .before .before .before .before .before .before .expect) .result) ((c .before .before .before .before .before .before .before .before .before .before .expect) .ensures) in
     let f3 = rw ((c .before .before .before .before .before .before .before .before .f) .given .1) at m3 in
     ap (wrap ((c .before .before .before .before .before .before .before .before .before .before .before .before .before .before .before .before .before .before .before .before .before .before .before .before .args) .stream .now) 8 opening (((c .before .before .before .before .before .before .before .before .before .before .before .before .before .before .before .before .before .before .before .before .before .before .before .before .args) .c) .place)) (past _ f1 (past _ f2 (past _ f3 (rw ((c .before .e5) .given .1) at ((c .before .before .before .before .before .sub) .ensures)))))
 
@@ -374,7 +374,7 @@ unfolding read repeatstat
 repeats-returns-5 t c =
     let f1 = word-fine ((c .before .before .before .before .before .before .before .before .before .before .before .before .before .before .before .before .before .before .before .before .before .before .before .before .before .before .before .before .args) .stream .now) (ranks ((c .before .before .before .before .before .before .before .before .before .before .before .before .before .before .before .before .before .before .before .before .before .before .before .before .before .before .before .before .args) .ranking)) 0 (readers ((c .before .before .before .before .before .before .before .before .before .before .before .before .before .before .before .before .before .before .before .before .before .before .before .before .before .before .before .before .args) .stream .now) (ranks ((c .before .before .before .before .before .before .before .before .before .before .before .before .before .before .before .before .before .before .before .before .before .before .before .before .before .before .before .before .args) .ranking)) ((c .before .before .before .before .before .before .before .before .before .before .before .before .before .before .before .before .before .before .before .before .before .before .before .before .before .before .before .before .args) .g)) (hold 0 0 none) again ((c .before .before .before .before .before .before .before .before .before .before .before .before .before .before .before .before .before .before .before .before .before .before .before .before .before .before .before .before .args) .c) ((c .before .before .before .before .before .before .before .before .before .before .before .before .before .before .before .before .before .before .before .before .before .before .before .before .before .before .before .before .args) .nodes .now) (((c .before .before .before .before .before .before .before .before .before .before .before .before .before .before .before .before .before .before .before .before .before .before .before .before .before .before .before .before .args) .used) + 1) 0 (((c .before .before .before .before .before .before .before .before .before .before .before .before .before .before .before .before .before .before .before .before .before .before .before .before .before .before .before .before .pre) .1 .0) .formed) (omega (arith, ((c .before .before .before .before .before .before .before .before .before .before .before .before .before .before .before .before .before .before .before .before .before .before .before .before .before .before .before .before .pre) .1 .0) .room)) 16 refl refl ((sym ((c .before .before .before .before .before .before .before .before .before .before .before .before .before .before .before .before .before .before .before .before .before .before .before .before .before .expect-next) .ensures)) ∙ (c .before .before .before .before .before .before .before .before .before .before .before .before .before .before .before .before .before .before .before .before .before .before .before .d) .given .1) in
     let f2 = rw ((c .before .before .before .before .before .before .before .before .before .before .before .before .before .before .before .before .e3) .given .1) at ((c .before .before .before .before .before .before .before .before .before .before .before .before .before .before .before .before .before .before .before .before .block) .ensures) in
-    let m3 = expect-meets ((c .before .before .before .before .before .before .before .before .before .before .before .before .before .before .before .before .before .before .before .before .before .before .before .before .before .before .before .before .args) .stream .now) (ranks ((c .before .before .before .before .before .before .before .before .before .before .before .before .before .before .before .before .before .before .before .before .before .before .before .before .before .before .before .before .args) .ranking)) 0 (readers ((c .before .before .before .before .before .before .before .before .before .before .before .before .before .before .before .before .before .before .before .before .before .before .before .before .before .before .before .before .args) .stream .now) (ranks ((c .before .before .before .before .before .before .before .before .before .before .before .before .before .before .before .before .before .before .before .before .before .before .before .before .before .before .before .before .args) .ranking)) ((c .before .before .before .before .before .before .before .before .before .before .before .before .before .before .before .before .before .before .before .before .before .before .before .before .before .before .before .before .args) .g)) (hold 0 0 none) again ((c .before .before .before .before .before .before .before .before .before .before .before .before .before .before .before .before .e3) .given .0 .0) 20 refl refl (((c .before .before .before .before .before .before .before .before .before .before .before .before .before .before .before .before .before .before .before .before .before .before .before .before .before .before .before .before .pre) .1 .0) .formed) ((c .before .before .before .before .before .before .before .before .before .before .before .before .before .before .before .before .before .before .before .before .block) .last .1 .0) ((c .before .before .before .before .before .before .before .before .before .before .before .before .before .before .before .before .e3) .given .0 .1 .0) 0 (omega (arith, f2 .room)) ((c .before .before .before .before .before .before .before .before .before .before .before .before .before .before .expect) .result) ((c .before .before .before .before .before .before .before .before .before .before .before .before .before .before .expect) .ensures) in
+    let m3 = expect-after ((c .before .before .before .before .before .before .before .before .before .before .before .before .before .before .before .before .before .before .before .before .before .before .before .before .before .before .before .before .args) .stream .now) (ranks ((c .before .before .before .before .before .before .before .before .before .before .before .before .before .before .before .before .before .before .before .before .before .before .before .before .before .before .before .before .args) .ranking)) 0 (readers ((c .before .before .before .before .before .before .before .before .before .before .before .before .before .before .before .before .before .before .before .before .before .before .before .before .before .before .before .before .args) .stream .now) (ranks ((c .before .before .before .before .before .before .before .before .before .before .before .before .before .before .before .before .before .before .before .before .before .before .before .before .before .before .before .before .args) .ranking)) ((c .before .before .before .before .before .before .before .before .before .before .before .before .before .before .before .before .before .before .before .before .before .before .before .before .before .before .before .before .args) .g)) (hold 0 0 none) again f2 20 refl refl (((c .before .before .before .before .before .before .before .before .before .before .before .before .before .before .before .before .before .before .before .before .before .before .before .before .before .before .before .before .pre) .1 .0) .formed) 0 (omega arith) ((c .before .before .before .before .before .before .before .before .before .before .before .before .before .before .expect) .result) ((c .before .before .before .before .before .before .before .before .before .before .before .before .before .before .expect) .ensures) in
     let f3 = rw ((c .before .before .before .before .before .before .before .before .before .before .before .before .f) .given .1) at m3 in
     let f4 = rw ((c .before .before .before .before .before .h) .given .1) at ((c .before .before .before .before .before .before .before .before .before .sub) .ensures) in
     rw ((c .before .before .close) .ensures .0) (over 8 opening (((c .before .before .before .before .before .before .before .before .before .before .before .before .before .before .before .before .before .before .before .before .before .before .before .before .before .before .before .before .args) .c) .place) ((c .before .before .before .before .before .before .before .before .before .before .before .before .before .before .before .before .before .before .before .before .before .before .before .before .before .before .before .before .args) .line) (both _ f1 (both _ f2 (both _ f3 f4 (omega arith)) (omega arith)) (omega arith)) ((c .before .before .close) .ensures .1) ((c .before .before .before .before .before .before .before .before .before .before .before .before .before .before .before .before .before .before .before .before .before .before .before .before .before .before .before .before .pre) .1 .1))

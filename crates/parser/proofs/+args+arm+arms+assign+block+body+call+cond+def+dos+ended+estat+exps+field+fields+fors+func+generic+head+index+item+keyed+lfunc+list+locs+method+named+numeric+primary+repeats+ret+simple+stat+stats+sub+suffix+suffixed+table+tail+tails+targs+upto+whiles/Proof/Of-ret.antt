@@ -9,9 +9,8 @@ use Rattle.stream.proofs.reader.expect_next.Reads as expect-next-reads
 use Rattle.stream.proofs.reader.look_ahead.Reads as look-ahead-reads
 use Rattle.parser.proofs.+args+arm+arms+assign+block+body+call+cond+def+dos+ended+estat+exps+field+fields+fors+func+generic+head+index+item+keyed+lfunc+list+locs+method+named+numeric+primary+repeats+ret+simple+stat+stats+sub+suffix+suffixed+table+tail+tails+targs+upto+whiles.{}
 use Rattle.parser.proofs.+args+arm+arms+assign+block+body+call+cond+def+dos+ended+estat+exps+field+fields+fors+func+generic+head+index+item+keyed+lfunc+list+locs+method+named+numeric+primary+repeats+ret+simple+stat+stats+sub+suffix+suffixed+table+tail+tails+targs+upto+whiles.Proof.Levels.{exps-below, ret-at}
-use mathlib.Core.Path.{_≡_, refl, sym, ap, _∙_}
+use mathlib.Core.Path.{refl, sym, ap, _∙_}
 use mathlib.Core.List.{[], _∷_}
-use mathlib.Core.Bool.{false}
 use Prim.Native.Nat.{ℕ, _+_, _-_}
 use native.Mathlib.Omega.{arith}
 use Rattle.operators.specs.Ranks.{ranks}
@@ -20,15 +19,13 @@ use Rattle.grammar.specs.Reading.{read, hold, wrap, last}
 use Rattle.grammar.specs.Levels.{readers}
 use Rattle.grammar.specs.Term.{ahead, check, opening, opt}
 use Rattle.grammar.specs.Term.{empty, any, on}
-use Rattle.grammar.specs.Member.{member}
 use Rattle.parser.specs.Contract.{again}
 use Rattle.stream.proofs.Words.{few}
-use Rattle.parser.proofs.Steps.{saw, look-in, look-out, end-in}
-use Rattle.parser.proofs.Kit.{alter, kept, looked, stop, past}
-use Rattle.parser.proofs.Tokens.{word-fail, word-fine, look-place, end-place}
+use Rattle.parser.proofs.Steps.{look-in, look-out, end-in, look-place, end-place, saw-real}
+use Rattle.parser.proofs.Among.{among, nor}
+use Rattle.parser.proofs.Kit.{kept, ready-at, ready-seen, alter, looked, stop, past, closed}
+use Rattle.parser.proofs.Tokens.{word-fail, word-fine}
 use Rattle.grammar.specs.Productions.{explist, retstat}
-use Rattle.parser.proofs.Shapes.{not-among, closed}
-use Rattle.stream.specs.declared.reader.Token.{Token}
 
 pub ret-expect-next-requires : (t : ℕ) → ret-lts.Need-expect-next-requires (
   expect-next-reads.Asked,
@@ -127,9 +124,8 @@ pub ret-close-return-requires : (t : ℕ) → ret-lts.Need-close-return-requires
 ) (ret-at t) ret.Post
 ret-close-return-requires t c κs =
     let f1 = word-fine ((c .before .before .before .before .before .before .before .before .before .before .before .args) .stream .now) (ranks ((c .before .before .before .before .before .before .before .before .before .before .before .args) .ranking)) 0 (readers ((c .before .before .before .before .before .before .before .before .before .before .before .args) .stream .now) (ranks ((c .before .before .before .before .before .before .before .before .before .before .before .args) .ranking)) ((c .before .before .before .before .before .before .before .before .before .before .before .args) .g)) (hold 0 0 none) again ((c .before .before .before .before .before .before .before .before .before .before .before .args) .c) ((c .before .before .before .before .before .before .before .before .before .before .before .args) .nodes .now) (((c .before .before .before .before .before .before .before .before .before .before .before .args) .used) + 1) 0 (((c .before .before .before .before .before .before .before .before .before .before .before .pre) .1 .0) .formed) (omega (arith, ((c .before .before .before .before .before .before .before .before .before .before .before .pre) .1 .0) .room)) 17 refl refl ((sym ((c .before .before .before .before .before .before .before .before .expect-next) .ensures)) ∙ (c .before .before .before .before .before .before .d) .given .1) in
-    let x = sym ((c .before .before .before .before .look-ahead) .ensures) ∙ (c .before .before .e2) .given .1 in
-    let p = end-place ((c .before .before .before .before .before .before .before .before .before .before .before .args) .stream .now) ((c .before .before .before .before .before .before .d) .given .0 .1 .0) x in
-    (record { formed = ((c .before .before .before .before .before .before .before .before .before .before .before .pre) .1 .0) .formed; at = omega (arith, p, f1 .at); room = omega (arith, p, f1 .room) }, omega arith)
+    let p = end-place ((c .before .before .before .before .before .before .before .before .before .before .before .args) .stream .now) ((c .before .before .before .before .before .before .d) .given .0 .1 .0) (sym ((c .before .before .before .before .look-ahead) .ensures) ∙ (c .before .before .e2) .given .1) in
+    (ready-seen (ready-at (((c .before .before .before .before .before .before .before .before .before .before .before .pre) .1 .0) .formed) f1 (omega arith)) p, omega arith)
 
 pub ret-enum-known-t : (t : ℕ) → ret-lts.Need-enum-known-t (
   expect-next-reads.Asked,
@@ -167,9 +163,8 @@ pub ret-close-return-requires-2 : (t : ℕ) → ret-lts.Need-close-return-requir
 ) (ret-at t) ret.Post
 ret-close-return-requires-2 t c κs =
     let f1 = word-fine ((c .before .before .before .before .before .before .before .before .before .before .before .before .args) .stream .now) (ranks ((c .before .before .before .before .before .before .before .before .before .before .before .before .args) .ranking)) 0 (readers ((c .before .before .before .before .before .before .before .before .before .before .before .before .args) .stream .now) (ranks ((c .before .before .before .before .before .before .before .before .before .before .before .before .args) .ranking)) ((c .before .before .before .before .before .before .before .before .before .before .before .before .args) .g)) (hold 0 0 none) again ((c .before .before .before .before .before .before .before .before .before .before .before .before .args) .c) ((c .before .before .before .before .before .before .before .before .before .before .before .before .args) .nodes .now) (((c .before .before .before .before .before .before .before .before .before .before .before .before .args) .used) + 1) 0 (((c .before .before .before .before .before .before .before .before .before .before .before .before .pre) .1 .0) .formed) (omega (arith, ((c .before .before .before .before .before .before .before .before .before .before .before .before .pre) .1 .0) .room)) 17 refl refl ((sym ((c .before .before .before .before .before .before .before .before .before .expect-next) .ensures)) ∙ (c .before .before .before .before .before .before .before .d) .given .1) in
-    let x = sym ((c .before .before .before .before .before .look-ahead) .ensures) ∙ (c .before .before .before .t) .given .1 in
-    let p = look-place ((c .before .before .before .before .before .before .before .before .before .before .before .before .args) .stream .now) ((c .before .before .before .before .before .before .before .d) .given .0 .1 .0) x in
-    (record { formed = ((c .before .before .before .before .before .before .before .before .before .before .before .before .pre) .1 .0) .formed; at = omega (arith, p, f1 .at); room = omega (arith, p, f1 .room) }, omega arith)
+    let p = look-place ((c .before .before .before .before .before .before .before .before .before .before .before .before .args) .stream .now) ((c .before .before .before .before .before .before .before .d) .given .0 .1 .0) (sym ((c .before .before .before .before .before .look-ahead) .ensures) ∙ (c .before .before .before .t) .given .1) in
+    (ready-seen (ready-at (((c .before .before .before .before .before .before .before .before .before .before .before .before .pre) .1 .0) .formed) f1 (omega arith)) p, omega arith)
 
 pub ret-add-close-return-3 : (t : ℕ) → ret-lts.Need-add-close-return-3 (
   expect-next-reads.Asked,
@@ -195,9 +190,8 @@ pub ret-close-return-requires-3 : (t : ℕ) → ret-lts.Need-close-return-requir
 ) (ret-at t) ret.Post
 ret-close-return-requires-3 t c κs =
     let f1 = word-fine ((c .before .before .before .before .before .before .before .before .before .before .before .before .args) .stream .now) (ranks ((c .before .before .before .before .before .before .before .before .before .before .before .before .args) .ranking)) 0 (readers ((c .before .before .before .before .before .before .before .before .before .before .before .before .args) .stream .now) (ranks ((c .before .before .before .before .before .before .before .before .before .before .before .before .args) .ranking)) ((c .before .before .before .before .before .before .before .before .before .before .before .before .args) .g)) (hold 0 0 none) again ((c .before .before .before .before .before .before .before .before .before .before .before .before .args) .c) ((c .before .before .before .before .before .before .before .before .before .before .before .before .args) .nodes .now) (((c .before .before .before .before .before .before .before .before .before .before .before .before .args) .used) + 1) 0 (((c .before .before .before .before .before .before .before .before .before .before .before .before .pre) .1 .0) .formed) (omega (arith, ((c .before .before .before .before .before .before .before .before .before .before .before .before .pre) .1 .0) .room)) 17 refl refl ((sym ((c .before .before .before .before .before .before .before .before .before .expect-next) .ensures)) ∙ (c .before .before .before .before .before .before .before .d) .given .1) in
-    let x = sym ((c .before .before .before .before .before .look-ahead) .ensures) ∙ (c .before .before .before .t) .given .1 in
-    let p = look-place ((c .before .before .before .before .before .before .before .before .before .before .before .before .args) .stream .now) ((c .before .before .before .before .before .before .before .d) .given .0 .1 .0) x in
-    (record { formed = ((c .before .before .before .before .before .before .before .before .before .before .before .before .pre) .1 .0) .formed; at = omega (arith, p, f1 .at); room = omega (arith, p, f1 .room) }, omega arith)
+    let p = look-place ((c .before .before .before .before .before .before .before .before .before .before .before .before .args) .stream .now) ((c .before .before .before .before .before .before .before .d) .given .0 .1 .0) (sym ((c .before .before .before .before .before .look-ahead) .ensures) ∙ (c .before .before .before .t) .given .1) in
+    (ready-seen (ready-at (((c .before .before .before .before .before .before .before .before .before .before .before .before .pre) .1 .0) .formed) f1 (omega arith)) p, omega arith)
 
 pub ret-add-close-return-4 : (t : ℕ) → ret-lts.Need-add-close-return-4 (
   expect-next-reads.Asked,
@@ -223,9 +217,8 @@ pub ret-close-return-requires-4 : (t : ℕ) → ret-lts.Need-close-return-requir
 ) (ret-at t) ret.Post
 ret-close-return-requires-4 t c κs =
     let f1 = word-fine ((c .before .before .before .before .before .before .before .before .before .before .before .before .args) .stream .now) (ranks ((c .before .before .before .before .before .before .before .before .before .before .before .before .args) .ranking)) 0 (readers ((c .before .before .before .before .before .before .before .before .before .before .before .before .args) .stream .now) (ranks ((c .before .before .before .before .before .before .before .before .before .before .before .before .args) .ranking)) ((c .before .before .before .before .before .before .before .before .before .before .before .before .args) .g)) (hold 0 0 none) again ((c .before .before .before .before .before .before .before .before .before .before .before .before .args) .c) ((c .before .before .before .before .before .before .before .before .before .before .before .before .args) .nodes .now) (((c .before .before .before .before .before .before .before .before .before .before .before .before .args) .used) + 1) 0 (((c .before .before .before .before .before .before .before .before .before .before .before .before .pre) .1 .0) .formed) (omega (arith, ((c .before .before .before .before .before .before .before .before .before .before .before .before .pre) .1 .0) .room)) 17 refl refl ((sym ((c .before .before .before .before .before .before .before .before .before .expect-next) .ensures)) ∙ (c .before .before .before .before .before .before .before .d) .given .1) in
-    let x = sym ((c .before .before .before .before .before .look-ahead) .ensures) ∙ (c .before .before .before .t) .given .1 in
-    let p = look-place ((c .before .before .before .before .before .before .before .before .before .before .before .before .args) .stream .now) ((c .before .before .before .before .before .before .before .d) .given .0 .1 .0) x in
-    (record { formed = ((c .before .before .before .before .before .before .before .before .before .before .before .before .pre) .1 .0) .formed; at = omega (arith, p, f1 .at); room = omega (arith, p, f1 .room) }, omega arith)
+    let p = look-place ((c .before .before .before .before .before .before .before .before .before .before .before .before .args) .stream .now) ((c .before .before .before .before .before .before .before .d) .given .0 .1 .0) (sym ((c .before .before .before .before .before .look-ahead) .ensures) ∙ (c .before .before .before .t) .given .1) in
+    (ready-seen (ready-at (((c .before .before .before .before .before .before .before .before .before .before .before .before .pre) .1 .0) .formed) f1 (omega arith)) p, omega arith)
 
 pub ret-add-close-return-5 : (t : ℕ) → ret-lts.Need-add-close-return-5 (
   expect-next-reads.Asked,
@@ -251,9 +244,8 @@ pub ret-close-return-requires-5 : (t : ℕ) → ret-lts.Need-close-return-requir
 ) (ret-at t) ret.Post
 ret-close-return-requires-5 t c κs =
     let f1 = word-fine ((c .before .before .before .before .before .before .before .before .before .before .before .before .args) .stream .now) (ranks ((c .before .before .before .before .before .before .before .before .before .before .before .before .args) .ranking)) 0 (readers ((c .before .before .before .before .before .before .before .before .before .before .before .before .args) .stream .now) (ranks ((c .before .before .before .before .before .before .before .before .before .before .before .before .args) .ranking)) ((c .before .before .before .before .before .before .before .before .before .before .before .before .args) .g)) (hold 0 0 none) again ((c .before .before .before .before .before .before .before .before .before .before .before .before .args) .c) ((c .before .before .before .before .before .before .before .before .before .before .before .before .args) .nodes .now) (((c .before .before .before .before .before .before .before .before .before .before .before .before .args) .used) + 1) 0 (((c .before .before .before .before .before .before .before .before .before .before .before .before .pre) .1 .0) .formed) (omega (arith, ((c .before .before .before .before .before .before .before .before .before .before .before .before .pre) .1 .0) .room)) 17 refl refl ((sym ((c .before .before .before .before .before .before .before .before .before .expect-next) .ensures)) ∙ (c .before .before .before .before .before .before .before .d) .given .1) in
-    let x = sym ((c .before .before .before .before .before .look-ahead) .ensures) ∙ (c .before .before .before .t) .given .1 in
-    let p = look-place ((c .before .before .before .before .before .before .before .before .before .before .before .before .args) .stream .now) ((c .before .before .before .before .before .before .before .d) .given .0 .1 .0) x in
-    (record { formed = ((c .before .before .before .before .before .before .before .before .before .before .before .before .pre) .1 .0) .formed; at = omega (arith, p, f1 .at); room = omega (arith, p, f1 .room) }, omega arith)
+    let p = look-place ((c .before .before .before .before .before .before .before .before .before .before .before .before .args) .stream .now) ((c .before .before .before .before .before .before .before .d) .given .0 .1 .0) (sym ((c .before .before .before .before .before .look-ahead) .ensures) ∙ (c .before .before .before .t) .given .1) in
+    (ready-seen (ready-at (((c .before .before .before .before .before .before .before .before .before .before .before .before .pre) .1 .0) .formed) f1 (omega arith)) p, omega arith)
 
 pub ret-add-close-return-6 : (t : ℕ) → ret-lts.Need-add-close-return-6 (
   expect-next-reads.Asked,
@@ -279,9 +271,8 @@ pub ret-close-return-requires-6 : (t : ℕ) → ret-lts.Need-close-return-requir
 ) (ret-at t) ret.Post
 ret-close-return-requires-6 t c κs =
     let f1 = word-fine ((c .before .before .before .before .before .before .before .before .before .before .before .before .args) .stream .now) (ranks ((c .before .before .before .before .before .before .before .before .before .before .before .before .args) .ranking)) 0 (readers ((c .before .before .before .before .before .before .before .before .before .before .before .before .args) .stream .now) (ranks ((c .before .before .before .before .before .before .before .before .before .before .before .before .args) .ranking)) ((c .before .before .before .before .before .before .before .before .before .before .before .before .args) .g)) (hold 0 0 none) again ((c .before .before .before .before .before .before .before .before .before .before .before .before .args) .c) ((c .before .before .before .before .before .before .before .before .before .before .before .before .args) .nodes .now) (((c .before .before .before .before .before .before .before .before .before .before .before .before .args) .used) + 1) 0 (((c .before .before .before .before .before .before .before .before .before .before .before .before .pre) .1 .0) .formed) (omega (arith, ((c .before .before .before .before .before .before .before .before .before .before .before .before .pre) .1 .0) .room)) 17 refl refl ((sym ((c .before .before .before .before .before .before .before .before .before .expect-next) .ensures)) ∙ (c .before .before .before .before .before .before .before .d) .given .1) in
-    let x = sym ((c .before .before .before .before .before .look-ahead) .ensures) ∙ (c .before .before .before .t) .given .1 in
-    let p = look-place ((c .before .before .before .before .before .before .before .before .before .before .before .before .args) .stream .now) ((c .before .before .before .before .before .before .before .d) .given .0 .1 .0) x in
-    (record { formed = ((c .before .before .before .before .before .before .before .before .before .before .before .before .pre) .1 .0) .formed; at = omega (arith, p, f1 .at); room = omega (arith, p, f1 .room) }, omega arith)
+    let p = look-place ((c .before .before .before .before .before .before .before .before .before .before .before .before .args) .stream .now) ((c .before .before .before .before .before .before .before .d) .given .0 .1 .0) (sym ((c .before .before .before .before .before .look-ahead) .ensures) ∙ (c .before .before .before .t) .given .1) in
+    (ready-seen (ready-at (((c .before .before .before .before .before .before .before .before .before .before .before .before .pre) .1 .0) .formed) f1 (omega arith)) p, omega arith)
 
 pub ret-add-exps : (t : ℕ) → ret-lts.Need-add-exps (
   expect-next-reads.Asked,
@@ -307,9 +298,8 @@ pub ret-exps-requires : (t : ℕ) → ret-lts.Need-exps-requires (
 ) (ret-at t) ret.Post
 ret-exps-requires t c κs =
     let f1 = word-fine ((c .before .before .before .before .before .before .before .before .before .before .before .before .args) .stream .now) (ranks ((c .before .before .before .before .before .before .before .before .before .before .before .before .args) .ranking)) 0 (readers ((c .before .before .before .before .before .before .before .before .before .before .before .before .args) .stream .now) (ranks ((c .before .before .before .before .before .before .before .before .before .before .before .before .args) .ranking)) ((c .before .before .before .before .before .before .before .before .before .before .before .before .args) .g)) (hold 0 0 none) again ((c .before .before .before .before .before .before .before .before .before .before .before .before .args) .c) ((c .before .before .before .before .before .before .before .before .before .before .before .before .args) .nodes .now) (((c .before .before .before .before .before .before .before .before .before .before .before .before .args) .used) + 1) 0 (((c .before .before .before .before .before .before .before .before .before .before .before .before .pre) .1 .0) .formed) (omega (arith, ((c .before .before .before .before .before .before .before .before .before .before .before .before .pre) .1 .0) .room)) 17 refl refl ((sym ((c .before .before .before .before .before .before .before .before .before .expect-next) .ensures)) ∙ (c .before .before .before .before .before .before .before .d) .given .1) in
-    let x = sym ((c .before .before .before .before .before .look-ahead) .ensures) ∙ (c .before .before .before .t) .given .1 in
-    let p = look-place ((c .before .before .before .before .before .before .before .before .before .before .before .before .args) .stream .now) ((c .before .before .before .before .before .before .before .d) .given .0 .1 .0) x in
-    (omega (arith, (c .before .before .before .before .before .before .before .before .before .before .before .before .pre) .0), record { formed = ((c .before .before .before .before .before .before .before .before .before .before .before .before .pre) .1 .0) .formed; at = omega (arith, p, f1 .at); room = omega (arith, p, f1 .room) })
+    let p = look-place ((c .before .before .before .before .before .before .before .before .before .before .before .before .args) .stream .now) ((c .before .before .before .before .before .before .before .d) .given .0 .1 .0) (sym ((c .before .before .before .before .before .look-ahead) .ensures) ∙ (c .before .before .before .t) .given .1) in
+    (omega (arith, (c .before .before .before .before .before .before .before .before .before .before .before .before .pre) .0), ready-seen (ready-at (((c .before .before .before .before .before .before .before .before .before .before .before .before .pre) .1 .0) .formed) f1 (omega arith)) p)
 
 pub ret-enum-known-e-3 : (t : ℕ) → ret-lts.Need-enum-known-e-3 (
   expect-next-reads.Asked,
@@ -347,7 +337,7 @@ pub ret-close-return-requires-7 : (t : ℕ) → ret-lts.Need-close-return-requir
 ) (ret-at t) ret.Post
 ret-close-return-requires-7 t c κs =
     let f2 = rw ((c .before .before .f) .given .1) at ((c .before .before .before .before .before .before .exps) .ensures) in
-    (record { formed = ((c .before .before .before .before .before .before .before .before .before .before .before .before .before .before .before .before .before .before .before .pre) .1 .0) .formed; at = f2 .0 .at; room = f2 .0 .room }, omega (arith, f2 .0 .grown))
+    (ready-at (((c .before .before .before .before .before .before .before .before .before .before .before .before .before .before .before .before .before .before .before .pre) .1 .0) .formed) (f2 .0) (omega arith), omega (arith, f2 .0 .grown))
 
 pub ret-same-length : (t : ℕ) → ret-lts.Need-same-length (
   expect-next-reads.Asked,
@@ -374,9 +364,8 @@ pub ret-returns-2 : (t : ℕ) → ret-lts.Need-returns-2 (
 unfolding read retstat
 ret-returns-2 t c =
     let f1 = word-fine ((c .before .before .before .before .before .before .before .before .before .before .before .before .before .before .args) .stream .now) (ranks ((c .before .before .before .before .before .before .before .before .before .before .before .before .before .before .args) .ranking)) 0 (readers ((c .before .before .before .before .before .before .before .before .before .before .before .before .before .before .args) .stream .now) (ranks ((c .before .before .before .before .before .before .before .before .before .before .before .before .before .before .args) .ranking)) ((c .before .before .before .before .before .before .before .before .before .before .before .before .before .before .args) .g)) (hold 0 0 none) again ((c .before .before .before .before .before .before .before .before .before .before .before .before .before .before .args) .c) ((c .before .before .before .before .before .before .before .before .before .before .before .before .before .before .args) .nodes .now) (((c .before .before .before .before .before .before .before .before .before .before .before .before .before .before .args) .used) + 1) 0 (((c .before .before .before .before .before .before .before .before .before .before .before .before .before .before .pre) .1 .0) .formed) (omega (arith, ((c .before .before .before .before .before .before .before .before .before .before .before .before .before .before .pre) .1 .0) .room)) 17 refl refl ((sym ((c .before .before .before .before .before .before .before .before .before .before .before .expect-next) .ensures)) ∙ (c .before .before .before .before .before .before .before .before .before .d) .given .1) in
-    let x = sym ((c .before .before .before .before .before .before .before .look-ahead) .ensures) ∙ (c .before .before .before .before .before .e2) .given .1 in
-    let p = end-place ((c .before .before .before .before .before .before .before .before .before .before .before .before .before .before .args) .stream .now) ((c .before .before .before .before .before .before .before .before .before .d) .given .0 .1 .0) x in
-    closed ((c .before .before .before .before .before .before .before .before .before .before .before .before .before .before .args) .used) 0 2 0 opening (((c .before .before .before .before .before .before .before .before .before .before .before .before .before .before .args) .c) .place) ((c .before .before .before .before .before .before .before .before .before .before .before .before .before .before .args) .line) ((c .before .before .close-return) .last .1 .0) (read ((c .before .before .before .before .before .before .before .before .before .before .before .before .before .before .args) .stream .now) (ranks ((c .before .before .before .before .before .before .before .before .before .before .before .before .before .before .args) .ranking)) 0 (readers ((c .before .before .before .before .before .before .before .before .before .before .before .before .before .before .args) .stream .now) (ranks ((c .before .before .before .before .before .before .before .before .before .before .before .before .before .before .args) .ranking)) ((c .before .before .before .before .before .before .before .before .before .before .before .before .before .before .args) .g)) (hold 0 0 none) (on ahead (59 ∷ 4 ∷ 45 ∷ 2 ∷ 3 ∷ 20 ∷ []) empty (explist 1)) again) (read ((c .before .before .before .before .before .before .before .before .before .before .before .before .before .before .args) .stream .now) (ranks ((c .before .before .before .before .before .before .before .before .before .before .before .before .before .before .args) .ranking)) 0 (readers ((c .before .before .before .before .before .before .before .before .before .before .before .before .before .before .args) .stream .now) (ranks ((c .before .before .before .before .before .before .before .before .before .before .before .before .before .before .args) .ranking)) ((c .before .before .before .before .before .before .before .before .before .before .before .before .before .before .args) .g)) (hold 0 0 none) (opt check (45 ∷ []) any) again) f1 (looked _ _ 0 ((c .before .before .before .before .before .before .before .before .before .d) .given .0 .1 .0) _ (end-in ((c .before .before .before .before .before .before .before .before .before .before .before .before .before .before .args) .stream .now) (ranks ((c .before .before .before .before .before .before .before .before .before .before .before .before .before .before .args) .ranking)) 0 (readers ((c .before .before .before .before .before .before .before .before .before .before .before .before .before .before .args) .stream .now) (ranks ((c .before .before .before .before .before .before .before .before .before .before .before .before .before .before .args) .ranking)) ((c .before .before .before .before .before .before .before .before .before .before .before .before .before .before .args) .g)) (hold 0 0 none) again ((c .before .before .before .before .before .before .before .before .before .d) .given .0 .1 .0) (59 ∷ 4 ∷ 45 ∷ 2 ∷ 3 ∷ 20 ∷ []) empty (explist 1) x refl) p (f1 .at) (f1 .room)) (omega arith) ((c .before .before .close-return) .result) ((c .before .before .close-return) .ensures ((c .before .before .before .before .before .before .before .before .before .before .before .before .before .before .args) .ranking) ((c .before .before .before .before .before .before .before .before .before .before .before .before .before .before .args) .g)) (omega arith) (λ e x y. (c .before .before .before .before .before .before .before .before .before .before .before .before .before .before .pre) .1 .1)
+    let p = end-place ((c .before .before .before .before .before .before .before .before .before .before .before .before .before .before .args) .stream .now) ((c .before .before .before .before .before .before .before .before .before .d) .given .0 .1 .0) (sym ((c .before .before .before .before .before .before .before .look-ahead) .ensures) ∙ (c .before .before .before .before .before .e2) .given .1) in
+    closed ((c .before .before .before .before .before .before .before .before .before .before .before .before .before .before .args) .used) 0 2 0 opening (((c .before .before .before .before .before .before .before .before .before .before .before .before .before .before .args) .c) .place) ((c .before .before .before .before .before .before .before .before .before .before .before .before .before .before .args) .line) ((c .before .before .close-return) .last .1 .0) (read ((c .before .before .before .before .before .before .before .before .before .before .before .before .before .before .args) .stream .now) (ranks ((c .before .before .before .before .before .before .before .before .before .before .before .before .before .before .args) .ranking)) 0 (readers ((c .before .before .before .before .before .before .before .before .before .before .before .before .before .before .args) .stream .now) (ranks ((c .before .before .before .before .before .before .before .before .before .before .before .before .before .before .args) .ranking)) ((c .before .before .before .before .before .before .before .before .before .before .before .before .before .before .args) .g)) (hold 0 0 none) (on ahead (59 ∷ 4 ∷ 45 ∷ 2 ∷ 3 ∷ 20 ∷ []) empty (explist 1)) again) (read ((c .before .before .before .before .before .before .before .before .before .before .before .before .before .before .args) .stream .now) (ranks ((c .before .before .before .before .before .before .before .before .before .before .before .before .before .before .args) .ranking)) 0 (readers ((c .before .before .before .before .before .before .before .before .before .before .before .before .before .before .args) .stream .now) (ranks ((c .before .before .before .before .before .before .before .before .before .before .before .before .before .before .args) .ranking)) ((c .before .before .before .before .before .before .before .before .before .before .before .before .before .before .args) .g)) (hold 0 0 none) (opt check (45 ∷ []) any) again) f1 (looked _ _ 0 ((c .before .before .before .before .before .before .before .before .before .d) .given .0 .1 .0) _ (end-in ((c .before .before .before .before .before .before .before .before .before .before .before .before .before .before .args) .stream .now) (ranks ((c .before .before .before .before .before .before .before .before .before .before .before .before .before .before .args) .ranking)) 0 (readers ((c .before .before .before .before .before .before .before .before .before .before .before .before .before .before .args) .stream .now) (ranks ((c .before .before .before .before .before .before .before .before .before .before .before .before .before .before .args) .ranking)) ((c .before .before .before .before .before .before .before .before .before .before .before .before .before .before .args) .g)) (hold 0 0 none) again ((c .before .before .before .before .before .before .before .before .before .d) .given .0 .1 .0) (59 ∷ 4 ∷ 45 ∷ 2 ∷ 3 ∷ 20 ∷ []) empty (explist 1) (sym ((c .before .before .before .before .before .before .before .look-ahead) .ensures) ∙ (c .before .before .before .before .before .e2) .given .1) refl) p (f1 .at) (f1 .room)) (omega arith) ((c .before .before .close-return) .result) ((c .before .before .close-return) .ensures ((c .before .before .before .before .before .before .before .before .before .before .before .before .before .before .args) .ranking) ((c .before .before .before .before .before .before .before .before .before .before .before .before .before .before .args) .g)) (omega arith) (λ e x y. (c .before .before .before .before .before .before .before .before .before .before .before .before .before .before .pre) .1 .1)
 
 pub ret-same-length-2 : (t : ℕ) → ret-lts.Need-same-length-2 (
   expect-next-reads.Asked,
@@ -403,9 +392,9 @@ pub ret-returns-3 : (t : ℕ) → ret-lts.Need-returns-3 (
 unfolding read retstat
 ret-returns-3 t c =
     let f1 = word-fine ((c .before .before .before .before .before .before .before .before .before .before .before .before .before .before .before .args) .stream .now) (ranks ((c .before .before .before .before .before .before .before .before .before .before .before .before .before .before .before .args) .ranking)) 0 (readers ((c .before .before .before .before .before .before .before .before .before .before .before .before .before .before .before .args) .stream .now) (ranks ((c .before .before .before .before .before .before .before .before .before .before .before .before .before .before .before .args) .ranking)) ((c .before .before .before .before .before .before .before .before .before .before .before .before .before .before .before .args) .g)) (hold 0 0 none) again ((c .before .before .before .before .before .before .before .before .before .before .before .before .before .before .before .args) .c) ((c .before .before .before .before .before .before .before .before .before .before .before .before .before .before .before .args) .nodes .now) (((c .before .before .before .before .before .before .before .before .before .before .before .before .before .before .before .args) .used) + 1) 0 (((c .before .before .before .before .before .before .before .before .before .before .before .before .before .before .before .pre) .1 .0) .formed) (omega (arith, ((c .before .before .before .before .before .before .before .before .before .before .before .before .before .before .before .pre) .1 .0) .room)) 17 refl refl ((sym ((c .before .before .before .before .before .before .before .before .before .before .before .before .expect-next) .ensures)) ∙ (c .before .before .before .before .before .before .before .before .before .before .d) .given .1) in
-    let x = sym ((c .before .before .before .before .before .before .before .before .look-ahead) .ensures) ∙ (c .before .before .before .before .before .before .t) .given .1 in
-    let p = look-place ((c .before .before .before .before .before .before .before .before .before .before .before .before .before .before .before .args) .stream .now) ((c .before .before .before .before .before .before .before .before .before .before .d) .given .0 .1 .0) x in
-    closed ((c .before .before .before .before .before .before .before .before .before .before .before .before .before .before .before .args) .used) 0 2 0 opening (((c .before .before .before .before .before .before .before .before .before .before .before .before .before .before .before .args) .c) .place) ((c .before .before .before .before .before .before .before .before .before .before .before .before .before .before .before .args) .line) ((c .before .before .close-return2) .last .1 .0) (read ((c .before .before .before .before .before .before .before .before .before .before .before .before .before .before .before .args) .stream .now) (ranks ((c .before .before .before .before .before .before .before .before .before .before .before .before .before .before .before .args) .ranking)) 0 (readers ((c .before .before .before .before .before .before .before .before .before .before .before .before .before .before .before .args) .stream .now) (ranks ((c .before .before .before .before .before .before .before .before .before .before .before .before .before .before .before .args) .ranking)) ((c .before .before .before .before .before .before .before .before .before .before .before .before .before .before .before .args) .g)) (hold 0 0 none) (on ahead (59 ∷ 4 ∷ 45 ∷ 2 ∷ 3 ∷ 20 ∷ []) empty (explist 1)) again) (read ((c .before .before .before .before .before .before .before .before .before .before .before .before .before .before .before .args) .stream .now) (ranks ((c .before .before .before .before .before .before .before .before .before .before .before .before .before .before .before .args) .ranking)) 0 (readers ((c .before .before .before .before .before .before .before .before .before .before .before .before .before .before .before .args) .stream .now) (ranks ((c .before .before .before .before .before .before .before .before .before .before .before .before .before .before .before .args) .ranking)) ((c .before .before .before .before .before .before .before .before .before .before .before .before .before .before .before .args) .g)) (hold 0 0 none) (opt check (45 ∷ []) any) again) f1 (looked _ _ 0 ((c .before .before .before .before .before .before .before .before .before .before .d) .given .0 .1 .0) _ (look-in ((c .before .before .before .before .before .before .before .before .before .before .before .before .before .before .before .args) .stream .now) (ranks ((c .before .before .before .before .before .before .before .before .before .before .before .before .before .before .before .args) .ranking)) 0 (readers ((c .before .before .before .before .before .before .before .before .before .before .before .before .before .before .before .args) .stream .now) (ranks ((c .before .before .before .before .before .before .before .before .before .before .before .before .before .before .before .args) .ranking)) ((c .before .before .before .before .before .before .before .before .before .before .before .before .before .before .before .args) .g)) (hold 0 0 none) again ((c .before .before .before .before .before .before .before .before .before .before .d) .given .0 .1 .0) (59 ∷ 4 ∷ 45 ∷ 2 ∷ 3 ∷ 20 ∷ []) empty (explist 1) x (ap (λ (z : ℕ). member z (59 ∷ 4 ∷ 45 ∷ 2 ∷ 3 ∷ 20 ∷ [])) ((c .before .before .before .before .match3) .keys1))) p (f1 .at) (f1 .room)) (omega arith) ((c .before .before .close-return2) .result) ((c .before .before .close-return2) .ensures ((c .before .before .before .before .before .before .before .before .before .before .before .before .before .before .before .args) .ranking) ((c .before .before .before .before .before .before .before .before .before .before .before .before .before .before .before .args) .g)) (omega arith) (λ e x y. (c .before .before .before .before .before .before .before .before .before .before .before .before .before .before .before .pre) .1 .1)
+    let p = look-place ((c .before .before .before .before .before .before .before .before .before .before .before .before .before .before .before .args) .stream .now) ((c .before .before .before .before .before .before .before .before .before .before .d) .given .0 .1 .0) (sym ((c .before .before .before .before .before .before .before .before .look-ahead) .ensures) ∙ (c .before .before .before .before .before .before .t) .given .1) in
+    let q = (c .before .before .before .before .match3) .keys1 in
+    closed ((c .before .before .before .before .before .before .before .before .before .before .before .before .before .before .before .args) .used) 0 2 0 opening (((c .before .before .before .before .before .before .before .before .before .before .before .before .before .before .before .args) .c) .place) ((c .before .before .before .before .before .before .before .before .before .before .before .before .before .before .before .args) .line) ((c .before .before .close-return2) .last .1 .0) (read ((c .before .before .before .before .before .before .before .before .before .before .before .before .before .before .before .args) .stream .now) (ranks ((c .before .before .before .before .before .before .before .before .before .before .before .before .before .before .before .args) .ranking)) 0 (readers ((c .before .before .before .before .before .before .before .before .before .before .before .before .before .before .before .args) .stream .now) (ranks ((c .before .before .before .before .before .before .before .before .before .before .before .before .before .before .before .args) .ranking)) ((c .before .before .before .before .before .before .before .before .before .before .before .before .before .before .before .args) .g)) (hold 0 0 none) (on ahead (59 ∷ 4 ∷ 45 ∷ 2 ∷ 3 ∷ 20 ∷ []) empty (explist 1)) again) (read ((c .before .before .before .before .before .before .before .before .before .before .before .before .before .before .before .args) .stream .now) (ranks ((c .before .before .before .before .before .before .before .before .before .before .before .before .before .before .before .args) .ranking)) 0 (readers ((c .before .before .before .before .before .before .before .before .before .before .before .before .before .before .before .args) .stream .now) (ranks ((c .before .before .before .before .before .before .before .before .before .before .before .before .before .before .before .args) .ranking)) ((c .before .before .before .before .before .before .before .before .before .before .before .before .before .before .before .args) .g)) (hold 0 0 none) (opt check (45 ∷ []) any) again) f1 (looked _ _ 0 ((c .before .before .before .before .before .before .before .before .before .before .d) .given .0 .1 .0) _ (look-in ((c .before .before .before .before .before .before .before .before .before .before .before .before .before .before .before .args) .stream .now) (ranks ((c .before .before .before .before .before .before .before .before .before .before .before .before .before .before .before .args) .ranking)) 0 (readers ((c .before .before .before .before .before .before .before .before .before .before .before .before .before .before .before .args) .stream .now) (ranks ((c .before .before .before .before .before .before .before .before .before .before .before .before .before .before .before .args) .ranking)) ((c .before .before .before .before .before .before .before .before .before .before .before .before .before .before .before .args) .g)) (hold 0 0 none) again ((c .before .before .before .before .before .before .before .before .before .before .d) .given .0 .1 .0) (59 ∷ 4 ∷ 45 ∷ 2 ∷ 3 ∷ 20 ∷ []) empty (explist 1) (sym ((c .before .before .before .before .before .before .before .before .look-ahead) .ensures) ∙ (c .before .before .before .before .before .before .t) .given .1) (among (59 ∷ 4 ∷ 45 ∷ 2 ∷ 3 ∷ 20 ∷ []) q)) p (f1 .at) (f1 .room)) (omega arith) ((c .before .before .close-return2) .result) ((c .before .before .close-return2) .ensures ((c .before .before .before .before .before .before .before .before .before .before .before .before .before .before .before .args) .ranking) ((c .before .before .before .before .before .before .before .before .before .before .before .before .before .before .before .args) .g)) (omega arith) (λ e x y. (c .before .before .before .before .before .before .before .before .before .before .before .before .before .before .before .pre) .1 .1)
 
 pub ret-same-length-3 : (t : ℕ) → ret-lts.Need-same-length-3 (
   expect-next-reads.Asked,
@@ -432,9 +421,9 @@ pub ret-returns-4 : (t : ℕ) → ret-lts.Need-returns-4 (
 unfolding read retstat
 ret-returns-4 t c =
     let f1 = word-fine ((c .before .before .before .before .before .before .before .before .before .before .before .before .before .before .before .args) .stream .now) (ranks ((c .before .before .before .before .before .before .before .before .before .before .before .before .before .before .before .args) .ranking)) 0 (readers ((c .before .before .before .before .before .before .before .before .before .before .before .before .before .before .before .args) .stream .now) (ranks ((c .before .before .before .before .before .before .before .before .before .before .before .before .before .before .before .args) .ranking)) ((c .before .before .before .before .before .before .before .before .before .before .before .before .before .before .before .args) .g)) (hold 0 0 none) again ((c .before .before .before .before .before .before .before .before .before .before .before .before .before .before .before .args) .c) ((c .before .before .before .before .before .before .before .before .before .before .before .before .before .before .before .args) .nodes .now) (((c .before .before .before .before .before .before .before .before .before .before .before .before .before .before .before .args) .used) + 1) 0 (((c .before .before .before .before .before .before .before .before .before .before .before .before .before .before .before .pre) .1 .0) .formed) (omega (arith, ((c .before .before .before .before .before .before .before .before .before .before .before .before .before .before .before .pre) .1 .0) .room)) 17 refl refl ((sym ((c .before .before .before .before .before .before .before .before .before .before .before .before .expect-next) .ensures)) ∙ (c .before .before .before .before .before .before .before .before .before .before .d) .given .1) in
-    let x = sym ((c .before .before .before .before .before .before .before .before .look-ahead) .ensures) ∙ (c .before .before .before .before .before .before .t) .given .1 in
-    let p = look-place ((c .before .before .before .before .before .before .before .before .before .before .before .before .before .before .before .args) .stream .now) ((c .before .before .before .before .before .before .before .before .before .before .d) .given .0 .1 .0) x in
-    closed ((c .before .before .before .before .before .before .before .before .before .before .before .before .before .before .before .args) .used) 0 2 0 opening (((c .before .before .before .before .before .before .before .before .before .before .before .before .before .before .before .args) .c) .place) ((c .before .before .before .before .before .before .before .before .before .before .before .before .before .before .before .args) .line) ((c .before .before .close-return3) .last .1 .0) (read ((c .before .before .before .before .before .before .before .before .before .before .before .before .before .before .before .args) .stream .now) (ranks ((c .before .before .before .before .before .before .before .before .before .before .before .before .before .before .before .args) .ranking)) 0 (readers ((c .before .before .before .before .before .before .before .before .before .before .before .before .before .before .before .args) .stream .now) (ranks ((c .before .before .before .before .before .before .before .before .before .before .before .before .before .before .before .args) .ranking)) ((c .before .before .before .before .before .before .before .before .before .before .before .before .before .before .before .args) .g)) (hold 0 0 none) (on ahead (59 ∷ 4 ∷ 45 ∷ 2 ∷ 3 ∷ 20 ∷ []) empty (explist 1)) again) (read ((c .before .before .before .before .before .before .before .before .before .before .before .before .before .before .before .args) .stream .now) (ranks ((c .before .before .before .before .before .before .before .before .before .before .before .before .before .before .before .args) .ranking)) 0 (readers ((c .before .before .before .before .before .before .before .before .before .before .before .before .before .before .before .args) .stream .now) (ranks ((c .before .before .before .before .before .before .before .before .before .before .before .before .before .before .before .args) .ranking)) ((c .before .before .before .before .before .before .before .before .before .before .before .before .before .before .before .args) .g)) (hold 0 0 none) (opt check (45 ∷ []) any) again) f1 (looked _ _ 0 ((c .before .before .before .before .before .before .before .before .before .before .d) .given .0 .1 .0) _ (look-in ((c .before .before .before .before .before .before .before .before .before .before .before .before .before .before .before .args) .stream .now) (ranks ((c .before .before .before .before .before .before .before .before .before .before .before .before .before .before .before .args) .ranking)) 0 (readers ((c .before .before .before .before .before .before .before .before .before .before .before .before .before .before .before .args) .stream .now) (ranks ((c .before .before .before .before .before .before .before .before .before .before .before .before .before .before .before .args) .ranking)) ((c .before .before .before .before .before .before .before .before .before .before .before .before .before .before .before .args) .g)) (hold 0 0 none) again ((c .before .before .before .before .before .before .before .before .before .before .d) .given .0 .1 .0) (59 ∷ 4 ∷ 45 ∷ 2 ∷ 3 ∷ 20 ∷ []) empty (explist 1) x (ap (λ (z : ℕ). member z (59 ∷ 4 ∷ 45 ∷ 2 ∷ 3 ∷ 20 ∷ [])) ((c .before .before .before .before .match3) .keys2))) p (f1 .at) (f1 .room)) (omega arith) ((c .before .before .close-return3) .result) ((c .before .before .close-return3) .ensures ((c .before .before .before .before .before .before .before .before .before .before .before .before .before .before .before .args) .ranking) ((c .before .before .before .before .before .before .before .before .before .before .before .before .before .before .before .args) .g)) (omega arith) (λ e x y. (c .before .before .before .before .before .before .before .before .before .before .before .before .before .before .before .pre) .1 .1)
+    let p = look-place ((c .before .before .before .before .before .before .before .before .before .before .before .before .before .before .before .args) .stream .now) ((c .before .before .before .before .before .before .before .before .before .before .d) .given .0 .1 .0) (sym ((c .before .before .before .before .before .before .before .before .look-ahead) .ensures) ∙ (c .before .before .before .before .before .before .t) .given .1) in
+    let q = (c .before .before .before .before .match3) .keys2 in
+    closed ((c .before .before .before .before .before .before .before .before .before .before .before .before .before .before .before .args) .used) 0 2 0 opening (((c .before .before .before .before .before .before .before .before .before .before .before .before .before .before .before .args) .c) .place) ((c .before .before .before .before .before .before .before .before .before .before .before .before .before .before .before .args) .line) ((c .before .before .close-return3) .last .1 .0) (read ((c .before .before .before .before .before .before .before .before .before .before .before .before .before .before .before .args) .stream .now) (ranks ((c .before .before .before .before .before .before .before .before .before .before .before .before .before .before .before .args) .ranking)) 0 (readers ((c .before .before .before .before .before .before .before .before .before .before .before .before .before .before .before .args) .stream .now) (ranks ((c .before .before .before .before .before .before .before .before .before .before .before .before .before .before .before .args) .ranking)) ((c .before .before .before .before .before .before .before .before .before .before .before .before .before .before .before .args) .g)) (hold 0 0 none) (on ahead (59 ∷ 4 ∷ 45 ∷ 2 ∷ 3 ∷ 20 ∷ []) empty (explist 1)) again) (read ((c .before .before .before .before .before .before .before .before .before .before .before .before .before .before .before .args) .stream .now) (ranks ((c .before .before .before .before .before .before .before .before .before .before .before .before .before .before .before .args) .ranking)) 0 (readers ((c .before .before .before .before .before .before .before .before .before .before .before .before .before .before .before .args) .stream .now) (ranks ((c .before .before .before .before .before .before .before .before .before .before .before .before .before .before .before .args) .ranking)) ((c .before .before .before .before .before .before .before .before .before .before .before .before .before .before .before .args) .g)) (hold 0 0 none) (opt check (45 ∷ []) any) again) f1 (looked _ _ 0 ((c .before .before .before .before .before .before .before .before .before .before .d) .given .0 .1 .0) _ (look-in ((c .before .before .before .before .before .before .before .before .before .before .before .before .before .before .before .args) .stream .now) (ranks ((c .before .before .before .before .before .before .before .before .before .before .before .before .before .before .before .args) .ranking)) 0 (readers ((c .before .before .before .before .before .before .before .before .before .before .before .before .before .before .before .args) .stream .now) (ranks ((c .before .before .before .before .before .before .before .before .before .before .before .before .before .before .before .args) .ranking)) ((c .before .before .before .before .before .before .before .before .before .before .before .before .before .before .before .args) .g)) (hold 0 0 none) again ((c .before .before .before .before .before .before .before .before .before .before .d) .given .0 .1 .0) (59 ∷ 4 ∷ 45 ∷ 2 ∷ 3 ∷ 20 ∷ []) empty (explist 1) (sym ((c .before .before .before .before .before .before .before .before .look-ahead) .ensures) ∙ (c .before .before .before .before .before .before .t) .given .1) (among (59 ∷ 4 ∷ 45 ∷ 2 ∷ 3 ∷ 20 ∷ []) q)) p (f1 .at) (f1 .room)) (omega arith) ((c .before .before .close-return3) .result) ((c .before .before .close-return3) .ensures ((c .before .before .before .before .before .before .before .before .before .before .before .before .before .before .before .args) .ranking) ((c .before .before .before .before .before .before .before .before .before .before .before .before .before .before .before .args) .g)) (omega arith) (λ e x y. (c .before .before .before .before .before .before .before .before .before .before .before .before .before .before .before .pre) .1 .1)
 
 pub ret-same-length-4 : (t : ℕ) → ret-lts.Need-same-length-4 (
   expect-next-reads.Asked,
@@ -461,9 +450,9 @@ pub ret-returns-5 : (t : ℕ) → ret-lts.Need-returns-5 (
 unfolding read retstat
 ret-returns-5 t c =
     let f1 = word-fine ((c .before .before .before .before .before .before .before .before .before .before .before .before .before .before .before .args) .stream .now) (ranks ((c .before .before .before .before .before .before .before .before .before .before .before .before .before .before .before .args) .ranking)) 0 (readers ((c .before .before .before .before .before .before .before .before .before .before .before .before .before .before .before .args) .stream .now) (ranks ((c .before .before .before .before .before .before .before .before .before .before .before .before .before .before .before .args) .ranking)) ((c .before .before .before .before .before .before .before .before .before .before .before .before .before .before .before .args) .g)) (hold 0 0 none) again ((c .before .before .before .before .before .before .before .before .before .before .before .before .before .before .before .args) .c) ((c .before .before .before .before .before .before .before .before .before .before .before .before .before .before .before .args) .nodes .now) (((c .before .before .before .before .before .before .before .before .before .before .before .before .before .before .before .args) .used) + 1) 0 (((c .before .before .before .before .before .before .before .before .before .before .before .before .before .before .before .pre) .1 .0) .formed) (omega (arith, ((c .before .before .before .before .before .before .before .before .before .before .before .before .before .before .before .pre) .1 .0) .room)) 17 refl refl ((sym ((c .before .before .before .before .before .before .before .before .before .before .before .before .expect-next) .ensures)) ∙ (c .before .before .before .before .before .before .before .before .before .before .d) .given .1) in
-    let x = sym ((c .before .before .before .before .before .before .before .before .look-ahead) .ensures) ∙ (c .before .before .before .before .before .before .t) .given .1 in
-    let p = look-place ((c .before .before .before .before .before .before .before .before .before .before .before .before .before .before .before .args) .stream .now) ((c .before .before .before .before .before .before .before .before .before .before .d) .given .0 .1 .0) x in
-    closed ((c .before .before .before .before .before .before .before .before .before .before .before .before .before .before .before .args) .used) 0 2 0 opening (((c .before .before .before .before .before .before .before .before .before .before .before .before .before .before .before .args) .c) .place) ((c .before .before .before .before .before .before .before .before .before .before .before .before .before .before .before .args) .line) ((c .before .before .close-return4) .last .1 .0) (read ((c .before .before .before .before .before .before .before .before .before .before .before .before .before .before .before .args) .stream .now) (ranks ((c .before .before .before .before .before .before .before .before .before .before .before .before .before .before .before .args) .ranking)) 0 (readers ((c .before .before .before .before .before .before .before .before .before .before .before .before .before .before .before .args) .stream .now) (ranks ((c .before .before .before .before .before .before .before .before .before .before .before .before .before .before .before .args) .ranking)) ((c .before .before .before .before .before .before .before .before .before .before .before .before .before .before .before .args) .g)) (hold 0 0 none) (on ahead (59 ∷ 4 ∷ 45 ∷ 2 ∷ 3 ∷ 20 ∷ []) empty (explist 1)) again) (read ((c .before .before .before .before .before .before .before .before .before .before .before .before .before .before .before .args) .stream .now) (ranks ((c .before .before .before .before .before .before .before .before .before .before .before .before .before .before .before .args) .ranking)) 0 (readers ((c .before .before .before .before .before .before .before .before .before .before .before .before .before .before .before .args) .stream .now) (ranks ((c .before .before .before .before .before .before .before .before .before .before .before .before .before .before .before .args) .ranking)) ((c .before .before .before .before .before .before .before .before .before .before .before .before .before .before .before .args) .g)) (hold 0 0 none) (opt check (45 ∷ []) any) again) f1 (looked _ _ 0 ((c .before .before .before .before .before .before .before .before .before .before .d) .given .0 .1 .0) _ (look-in ((c .before .before .before .before .before .before .before .before .before .before .before .before .before .before .before .args) .stream .now) (ranks ((c .before .before .before .before .before .before .before .before .before .before .before .before .before .before .before .args) .ranking)) 0 (readers ((c .before .before .before .before .before .before .before .before .before .before .before .before .before .before .before .args) .stream .now) (ranks ((c .before .before .before .before .before .before .before .before .before .before .before .before .before .before .before .args) .ranking)) ((c .before .before .before .before .before .before .before .before .before .before .before .before .before .before .before .args) .g)) (hold 0 0 none) again ((c .before .before .before .before .before .before .before .before .before .before .d) .given .0 .1 .0) (59 ∷ 4 ∷ 45 ∷ 2 ∷ 3 ∷ 20 ∷ []) empty (explist 1) x (ap (λ (z : ℕ). member z (59 ∷ 4 ∷ 45 ∷ 2 ∷ 3 ∷ 20 ∷ [])) ((c .before .before .before .before .match3) .keys3))) p (f1 .at) (f1 .room)) (omega arith) ((c .before .before .close-return4) .result) ((c .before .before .close-return4) .ensures ((c .before .before .before .before .before .before .before .before .before .before .before .before .before .before .before .args) .ranking) ((c .before .before .before .before .before .before .before .before .before .before .before .before .before .before .before .args) .g)) (omega arith) (λ e x y. (c .before .before .before .before .before .before .before .before .before .before .before .before .before .before .before .pre) .1 .1)
+    let p = look-place ((c .before .before .before .before .before .before .before .before .before .before .before .before .before .before .before .args) .stream .now) ((c .before .before .before .before .before .before .before .before .before .before .d) .given .0 .1 .0) (sym ((c .before .before .before .before .before .before .before .before .look-ahead) .ensures) ∙ (c .before .before .before .before .before .before .t) .given .1) in
+    let q = (c .before .before .before .before .match3) .keys3 in
+    closed ((c .before .before .before .before .before .before .before .before .before .before .before .before .before .before .before .args) .used) 0 2 0 opening (((c .before .before .before .before .before .before .before .before .before .before .before .before .before .before .before .args) .c) .place) ((c .before .before .before .before .before .before .before .before .before .before .before .before .before .before .before .args) .line) ((c .before .before .close-return4) .last .1 .0) (read ((c .before .before .before .before .before .before .before .before .before .before .before .before .before .before .before .args) .stream .now) (ranks ((c .before .before .before .before .before .before .before .before .before .before .before .before .before .before .before .args) .ranking)) 0 (readers ((c .before .before .before .before .before .before .before .before .before .before .before .before .before .before .before .args) .stream .now) (ranks ((c .before .before .before .before .before .before .before .before .before .before .before .before .before .before .before .args) .ranking)) ((c .before .before .before .before .before .before .before .before .before .before .before .before .before .before .before .args) .g)) (hold 0 0 none) (on ahead (59 ∷ 4 ∷ 45 ∷ 2 ∷ 3 ∷ 20 ∷ []) empty (explist 1)) again) (read ((c .before .before .before .before .before .before .before .before .before .before .before .before .before .before .before .args) .stream .now) (ranks ((c .before .before .before .before .before .before .before .before .before .before .before .before .before .before .before .args) .ranking)) 0 (readers ((c .before .before .before .before .before .before .before .before .before .before .before .before .before .before .before .args) .stream .now) (ranks ((c .before .before .before .before .before .before .before .before .before .before .before .before .before .before .before .args) .ranking)) ((c .before .before .before .before .before .before .before .before .before .before .before .before .before .before .before .args) .g)) (hold 0 0 none) (opt check (45 ∷ []) any) again) f1 (looked _ _ 0 ((c .before .before .before .before .before .before .before .before .before .before .d) .given .0 .1 .0) _ (look-in ((c .before .before .before .before .before .before .before .before .before .before .before .before .before .before .before .args) .stream .now) (ranks ((c .before .before .before .before .before .before .before .before .before .before .before .before .before .before .before .args) .ranking)) 0 (readers ((c .before .before .before .before .before .before .before .before .before .before .before .before .before .before .before .args) .stream .now) (ranks ((c .before .before .before .before .before .before .before .before .before .before .before .before .before .before .before .args) .ranking)) ((c .before .before .before .before .before .before .before .before .before .before .before .before .before .before .before .args) .g)) (hold 0 0 none) again ((c .before .before .before .before .before .before .before .before .before .before .d) .given .0 .1 .0) (59 ∷ 4 ∷ 45 ∷ 2 ∷ 3 ∷ 20 ∷ []) empty (explist 1) (sym ((c .before .before .before .before .before .before .before .before .look-ahead) .ensures) ∙ (c .before .before .before .before .before .before .t) .given .1) (among (59 ∷ 4 ∷ 45 ∷ 2 ∷ 3 ∷ 20 ∷ []) q)) p (f1 .at) (f1 .room)) (omega arith) ((c .before .before .close-return4) .result) ((c .before .before .close-return4) .ensures ((c .before .before .before .before .before .before .before .before .before .before .before .before .before .before .before .args) .ranking) ((c .before .before .before .before .before .before .before .before .before .before .before .before .before .before .before .args) .g)) (omega arith) (λ e x y. (c .before .before .before .before .before .before .before .before .before .before .before .before .before .before .before .pre) .1 .1)
 
 pub ret-same-length-5 : (t : ℕ) → ret-lts.Need-same-length-5 (
   expect-next-reads.Asked,
@@ -490,9 +479,9 @@ pub ret-returns-6 : (t : ℕ) → ret-lts.Need-returns-6 (
 unfolding read retstat
 ret-returns-6 t c =
     let f1 = word-fine ((c .before .before .before .before .before .before .before .before .before .before .before .before .before .before .before .args) .stream .now) (ranks ((c .before .before .before .before .before .before .before .before .before .before .before .before .before .before .before .args) .ranking)) 0 (readers ((c .before .before .before .before .before .before .before .before .before .before .before .before .before .before .before .args) .stream .now) (ranks ((c .before .before .before .before .before .before .before .before .before .before .before .before .before .before .before .args) .ranking)) ((c .before .before .before .before .before .before .before .before .before .before .before .before .before .before .before .args) .g)) (hold 0 0 none) again ((c .before .before .before .before .before .before .before .before .before .before .before .before .before .before .before .args) .c) ((c .before .before .before .before .before .before .before .before .before .before .before .before .before .before .before .args) .nodes .now) (((c .before .before .before .before .before .before .before .before .before .before .before .before .before .before .before .args) .used) + 1) 0 (((c .before .before .before .before .before .before .before .before .before .before .before .before .before .before .before .pre) .1 .0) .formed) (omega (arith, ((c .before .before .before .before .before .before .before .before .before .before .before .before .before .before .before .pre) .1 .0) .room)) 17 refl refl ((sym ((c .before .before .before .before .before .before .before .before .before .before .before .before .expect-next) .ensures)) ∙ (c .before .before .before .before .before .before .before .before .before .before .d) .given .1) in
-    let x = sym ((c .before .before .before .before .before .before .before .before .look-ahead) .ensures) ∙ (c .before .before .before .before .before .before .t) .given .1 in
-    let p = look-place ((c .before .before .before .before .before .before .before .before .before .before .before .before .before .before .before .args) .stream .now) ((c .before .before .before .before .before .before .before .before .before .before .d) .given .0 .1 .0) x in
-    closed ((c .before .before .before .before .before .before .before .before .before .before .before .before .before .before .before .args) .used) 0 2 0 opening (((c .before .before .before .before .before .before .before .before .before .before .before .before .before .before .before .args) .c) .place) ((c .before .before .before .before .before .before .before .before .before .before .before .before .before .before .before .args) .line) ((c .before .before .close-return5) .last .1 .0) (read ((c .before .before .before .before .before .before .before .before .before .before .before .before .before .before .before .args) .stream .now) (ranks ((c .before .before .before .before .before .before .before .before .before .before .before .before .before .before .before .args) .ranking)) 0 (readers ((c .before .before .before .before .before .before .before .before .before .before .before .before .before .before .before .args) .stream .now) (ranks ((c .before .before .before .before .before .before .before .before .before .before .before .before .before .before .before .args) .ranking)) ((c .before .before .before .before .before .before .before .before .before .before .before .before .before .before .before .args) .g)) (hold 0 0 none) (on ahead (59 ∷ 4 ∷ 45 ∷ 2 ∷ 3 ∷ 20 ∷ []) empty (explist 1)) again) (read ((c .before .before .before .before .before .before .before .before .before .before .before .before .before .before .before .args) .stream .now) (ranks ((c .before .before .before .before .before .before .before .before .before .before .before .before .before .before .before .args) .ranking)) 0 (readers ((c .before .before .before .before .before .before .before .before .before .before .before .before .before .before .before .args) .stream .now) (ranks ((c .before .before .before .before .before .before .before .before .before .before .before .before .before .before .before .args) .ranking)) ((c .before .before .before .before .before .before .before .before .before .before .before .before .before .before .before .args) .g)) (hold 0 0 none) (opt check (45 ∷ []) any) again) f1 (looked _ _ 0 ((c .before .before .before .before .before .before .before .before .before .before .d) .given .0 .1 .0) _ (look-in ((c .before .before .before .before .before .before .before .before .before .before .before .before .before .before .before .args) .stream .now) (ranks ((c .before .before .before .before .before .before .before .before .before .before .before .before .before .before .before .args) .ranking)) 0 (readers ((c .before .before .before .before .before .before .before .before .before .before .before .before .before .before .before .args) .stream .now) (ranks ((c .before .before .before .before .before .before .before .before .before .before .before .before .before .before .before .args) .ranking)) ((c .before .before .before .before .before .before .before .before .before .before .before .before .before .before .before .args) .g)) (hold 0 0 none) again ((c .before .before .before .before .before .before .before .before .before .before .d) .given .0 .1 .0) (59 ∷ 4 ∷ 45 ∷ 2 ∷ 3 ∷ 20 ∷ []) empty (explist 1) x (ap (λ (z : ℕ). member z (59 ∷ 4 ∷ 45 ∷ 2 ∷ 3 ∷ 20 ∷ [])) ((c .before .before .before .before .match3) .keys4))) p (f1 .at) (f1 .room)) (omega arith) ((c .before .before .close-return5) .result) ((c .before .before .close-return5) .ensures ((c .before .before .before .before .before .before .before .before .before .before .before .before .before .before .before .args) .ranking) ((c .before .before .before .before .before .before .before .before .before .before .before .before .before .before .before .args) .g)) (omega arith) (λ e x y. (c .before .before .before .before .before .before .before .before .before .before .before .before .before .before .before .pre) .1 .1)
+    let p = look-place ((c .before .before .before .before .before .before .before .before .before .before .before .before .before .before .before .args) .stream .now) ((c .before .before .before .before .before .before .before .before .before .before .d) .given .0 .1 .0) (sym ((c .before .before .before .before .before .before .before .before .look-ahead) .ensures) ∙ (c .before .before .before .before .before .before .t) .given .1) in
+    let q = (c .before .before .before .before .match3) .keys4 in
+    closed ((c .before .before .before .before .before .before .before .before .before .before .before .before .before .before .before .args) .used) 0 2 0 opening (((c .before .before .before .before .before .before .before .before .before .before .before .before .before .before .before .args) .c) .place) ((c .before .before .before .before .before .before .before .before .before .before .before .before .before .before .before .args) .line) ((c .before .before .close-return5) .last .1 .0) (read ((c .before .before .before .before .before .before .before .before .before .before .before .before .before .before .before .args) .stream .now) (ranks ((c .before .before .before .before .before .before .before .before .before .before .before .before .before .before .before .args) .ranking)) 0 (readers ((c .before .before .before .before .before .before .before .before .before .before .before .before .before .before .before .args) .stream .now) (ranks ((c .before .before .before .before .before .before .before .before .before .before .before .before .before .before .before .args) .ranking)) ((c .before .before .before .before .before .before .before .before .before .before .before .before .before .before .before .args) .g)) (hold 0 0 none) (on ahead (59 ∷ 4 ∷ 45 ∷ 2 ∷ 3 ∷ 20 ∷ []) empty (explist 1)) again) (read ((c .before .before .before .before .before .before .before .before .before .before .before .before .before .before .before .args) .stream .now) (ranks ((c .before .before .before .before .before .before .before .before .before .before .before .before .before .before .before .args) .ranking)) 0 (readers ((c .before .before .before .before .before .before .before .before .before .before .before .before .before .before .before .args) .stream .now) (ranks ((c .before .before .before .before .before .before .before .before .before .before .before .before .before .before .before .args) .ranking)) ((c .before .before .before .before .before .before .before .before .before .before .before .before .before .before .before .args) .g)) (hold 0 0 none) (opt check (45 ∷ []) any) again) f1 (looked _ _ 0 ((c .before .before .before .before .before .before .before .before .before .before .d) .given .0 .1 .0) _ (look-in ((c .before .before .before .before .before .before .before .before .before .before .before .before .before .before .before .args) .stream .now) (ranks ((c .before .before .before .before .before .before .before .before .before .before .before .before .before .before .before .args) .ranking)) 0 (readers ((c .before .before .before .before .before .before .before .before .before .before .before .before .before .before .before .args) .stream .now) (ranks ((c .before .before .before .before .before .before .before .before .before .before .before .before .before .before .before .args) .ranking)) ((c .before .before .before .before .before .before .before .before .before .before .before .before .before .before .before .args) .g)) (hold 0 0 none) again ((c .before .before .before .before .before .before .before .before .before .before .d) .given .0 .1 .0) (59 ∷ 4 ∷ 45 ∷ 2 ∷ 3 ∷ 20 ∷ []) empty (explist 1) (sym ((c .before .before .before .before .before .before .before .before .look-ahead) .ensures) ∙ (c .before .before .before .before .before .before .t) .given .1) (among (59 ∷ 4 ∷ 45 ∷ 2 ∷ 3 ∷ 20 ∷ []) q)) p (f1 .at) (f1 .room)) (omega arith) ((c .before .before .close-return5) .result) ((c .before .before .close-return5) .ensures ((c .before .before .before .before .before .before .before .before .before .before .before .before .before .before .before .args) .ranking) ((c .before .before .before .before .before .before .before .before .before .before .before .before .before .before .before .args) .g)) (omega arith) (λ e x y. (c .before .before .before .before .before .before .before .before .before .before .before .before .before .before .before .pre) .1 .1)
 
 pub ret-same-length-6 : (t : ℕ) → ret-lts.Need-same-length-6 (
   expect-next-reads.Asked,
@@ -519,9 +508,9 @@ pub ret-returns-7 : (t : ℕ) → ret-lts.Need-returns-7 (
 unfolding read retstat
 ret-returns-7 t c =
     let f1 = word-fine ((c .before .before .before .before .before .before .before .before .before .before .before .before .before .before .before .args) .stream .now) (ranks ((c .before .before .before .before .before .before .before .before .before .before .before .before .before .before .before .args) .ranking)) 0 (readers ((c .before .before .before .before .before .before .before .before .before .before .before .before .before .before .before .args) .stream .now) (ranks ((c .before .before .before .before .before .before .before .before .before .before .before .before .before .before .before .args) .ranking)) ((c .before .before .before .before .before .before .before .before .before .before .before .before .before .before .before .args) .g)) (hold 0 0 none) again ((c .before .before .before .before .before .before .before .before .before .before .before .before .before .before .before .args) .c) ((c .before .before .before .before .before .before .before .before .before .before .before .before .before .before .before .args) .nodes .now) (((c .before .before .before .before .before .before .before .before .before .before .before .before .before .before .before .args) .used) + 1) 0 (((c .before .before .before .before .before .before .before .before .before .before .before .before .before .before .before .pre) .1 .0) .formed) (omega (arith, ((c .before .before .before .before .before .before .before .before .before .before .before .before .before .before .before .pre) .1 .0) .room)) 17 refl refl ((sym ((c .before .before .before .before .before .before .before .before .before .before .before .before .expect-next) .ensures)) ∙ (c .before .before .before .before .before .before .before .before .before .before .d) .given .1) in
-    let x = sym ((c .before .before .before .before .before .before .before .before .look-ahead) .ensures) ∙ (c .before .before .before .before .before .before .t) .given .1 in
-    let p = look-place ((c .before .before .before .before .before .before .before .before .before .before .before .before .before .before .before .args) .stream .now) ((c .before .before .before .before .before .before .before .before .before .before .d) .given .0 .1 .0) x in
-    closed ((c .before .before .before .before .before .before .before .before .before .before .before .before .before .before .before .args) .used) 0 2 0 opening (((c .before .before .before .before .before .before .before .before .before .before .before .before .before .before .before .args) .c) .place) ((c .before .before .before .before .before .before .before .before .before .before .before .before .before .before .before .args) .line) ((c .before .before .close-return6) .last .1 .0) (read ((c .before .before .before .before .before .before .before .before .before .before .before .before .before .before .before .args) .stream .now) (ranks ((c .before .before .before .before .before .before .before .before .before .before .before .before .before .before .before .args) .ranking)) 0 (readers ((c .before .before .before .before .before .before .before .before .before .before .before .before .before .before .before .args) .stream .now) (ranks ((c .before .before .before .before .before .before .before .before .before .before .before .before .before .before .before .args) .ranking)) ((c .before .before .before .before .before .before .before .before .before .before .before .before .before .before .before .args) .g)) (hold 0 0 none) (on ahead (59 ∷ 4 ∷ 45 ∷ 2 ∷ 3 ∷ 20 ∷ []) empty (explist 1)) again) (read ((c .before .before .before .before .before .before .before .before .before .before .before .before .before .before .before .args) .stream .now) (ranks ((c .before .before .before .before .before .before .before .before .before .before .before .before .before .before .before .args) .ranking)) 0 (readers ((c .before .before .before .before .before .before .before .before .before .before .before .before .before .before .before .args) .stream .now) (ranks ((c .before .before .before .before .before .before .before .before .before .before .before .before .before .before .before .args) .ranking)) ((c .before .before .before .before .before .before .before .before .before .before .before .before .before .before .before .args) .g)) (hold 0 0 none) (opt check (45 ∷ []) any) again) f1 (looked _ _ 0 ((c .before .before .before .before .before .before .before .before .before .before .d) .given .0 .1 .0) _ (look-in ((c .before .before .before .before .before .before .before .before .before .before .before .before .before .before .before .args) .stream .now) (ranks ((c .before .before .before .before .before .before .before .before .before .before .before .before .before .before .before .args) .ranking)) 0 (readers ((c .before .before .before .before .before .before .before .before .before .before .before .before .before .before .before .args) .stream .now) (ranks ((c .before .before .before .before .before .before .before .before .before .before .before .before .before .before .before .args) .ranking)) ((c .before .before .before .before .before .before .before .before .before .before .before .before .before .before .before .args) .g)) (hold 0 0 none) again ((c .before .before .before .before .before .before .before .before .before .before .d) .given .0 .1 .0) (59 ∷ 4 ∷ 45 ∷ 2 ∷ 3 ∷ 20 ∷ []) empty (explist 1) x (ap (λ (z : ℕ). member z (59 ∷ 4 ∷ 45 ∷ 2 ∷ 3 ∷ 20 ∷ [])) ((c .before .before .before .before .match3) .keys5))) p (f1 .at) (f1 .room)) (omega arith) ((c .before .before .close-return6) .result) ((c .before .before .close-return6) .ensures ((c .before .before .before .before .before .before .before .before .before .before .before .before .before .before .before .args) .ranking) ((c .before .before .before .before .before .before .before .before .before .before .before .before .before .before .before .args) .g)) (omega arith) (λ e x y. (c .before .before .before .before .before .before .before .before .before .before .before .before .before .before .before .pre) .1 .1)
+    let p = look-place ((c .before .before .before .before .before .before .before .before .before .before .before .before .before .before .before .args) .stream .now) ((c .before .before .before .before .before .before .before .before .before .before .d) .given .0 .1 .0) (sym ((c .before .before .before .before .before .before .before .before .look-ahead) .ensures) ∙ (c .before .before .before .before .before .before .t) .given .1) in
+    let q = (c .before .before .before .before .match3) .keys5 in
+    closed ((c .before .before .before .before .before .before .before .before .before .before .before .before .before .before .before .args) .used) 0 2 0 opening (((c .before .before .before .before .before .before .before .before .before .before .before .before .before .before .before .args) .c) .place) ((c .before .before .before .before .before .before .before .before .before .before .before .before .before .before .before .args) .line) ((c .before .before .close-return6) .last .1 .0) (read ((c .before .before .before .before .before .before .before .before .before .before .before .before .before .before .before .args) .stream .now) (ranks ((c .before .before .before .before .before .before .before .before .before .before .before .before .before .before .before .args) .ranking)) 0 (readers ((c .before .before .before .before .before .before .before .before .before .before .before .before .before .before .before .args) .stream .now) (ranks ((c .before .before .before .before .before .before .before .before .before .before .before .before .before .before .before .args) .ranking)) ((c .before .before .before .before .before .before .before .before .before .before .before .before .before .before .before .args) .g)) (hold 0 0 none) (on ahead (59 ∷ 4 ∷ 45 ∷ 2 ∷ 3 ∷ 20 ∷ []) empty (explist 1)) again) (read ((c .before .before .before .before .before .before .before .before .before .before .before .before .before .before .before .args) .stream .now) (ranks ((c .before .before .before .before .before .before .before .before .before .before .before .before .before .before .before .args) .ranking)) 0 (readers ((c .before .before .before .before .before .before .before .before .before .before .before .before .before .before .before .args) .stream .now) (ranks ((c .before .before .before .before .before .before .before .before .before .before .before .before .before .before .before .args) .ranking)) ((c .before .before .before .before .before .before .before .before .before .before .before .before .before .before .before .args) .g)) (hold 0 0 none) (opt check (45 ∷ []) any) again) f1 (looked _ _ 0 ((c .before .before .before .before .before .before .before .before .before .before .d) .given .0 .1 .0) _ (look-in ((c .before .before .before .before .before .before .before .before .before .before .before .before .before .before .before .args) .stream .now) (ranks ((c .before .before .before .before .before .before .before .before .before .before .before .before .before .before .before .args) .ranking)) 0 (readers ((c .before .before .before .before .before .before .before .before .before .before .before .before .before .before .before .args) .stream .now) (ranks ((c .before .before .before .before .before .before .before .before .before .before .before .before .before .before .before .args) .ranking)) ((c .before .before .before .before .before .before .before .before .before .before .before .before .before .before .before .args) .g)) (hold 0 0 none) again ((c .before .before .before .before .before .before .before .before .before .before .d) .given .0 .1 .0) (59 ∷ 4 ∷ 45 ∷ 2 ∷ 3 ∷ 20 ∷ []) empty (explist 1) (sym ((c .before .before .before .before .before .before .before .before .look-ahead) .ensures) ∙ (c .before .before .before .before .before .before .t) .given .1) (among (59 ∷ 4 ∷ 45 ∷ 2 ∷ 3 ∷ 20 ∷ []) q)) p (f1 .at) (f1 .room)) (omega arith) ((c .before .before .close-return6) .result) ((c .before .before .close-return6) .ensures ((c .before .before .before .before .before .before .before .before .before .before .before .before .before .before .before .args) .ranking) ((c .before .before .before .before .before .before .before .before .before .before .before .before .before .before .before .args) .g)) (omega arith) (λ e x y. (c .before .before .before .before .before .before .before .before .before .before .before .before .before .before .before .pre) .1 .1)
 
 pub ret-same-length-7 : (t : ℕ) → ret-lts.Need-same-length-7 (
   expect-next-reads.Asked,
@@ -548,10 +537,8 @@ pub ret-returns-8 : (t : ℕ) → ret-lts.Need-returns-8 (
 unfolding read retstat
 ret-returns-8 t c =
     let f1 = word-fine ((c .before .before .before .before .before .before .before .before .before .before .before .before .before .before .before .before .before .before .args) .stream .now) (ranks ((c .before .before .before .before .before .before .before .before .before .before .before .before .before .before .before .before .before .before .args) .ranking)) 0 (readers ((c .before .before .before .before .before .before .before .before .before .before .before .before .before .before .before .before .before .before .args) .stream .now) (ranks ((c .before .before .before .before .before .before .before .before .before .before .before .before .before .before .before .before .before .before .args) .ranking)) ((c .before .before .before .before .before .before .before .before .before .before .before .before .before .before .before .before .before .before .args) .g)) (hold 0 0 none) again ((c .before .before .before .before .before .before .before .before .before .before .before .before .before .before .before .before .before .before .args) .c) ((c .before .before .before .before .before .before .before .before .before .before .before .before .before .before .before .before .before .before .args) .nodes .now) (((c .before .before .before .before .before .before .before .before .before .before .before .before .before .before .before .before .before .before .args) .used) + 1) 0 (((c .before .before .before .before .before .before .before .before .before .before .before .before .before .before .before .before .before .before .pre) .1 .0) .formed) (omega (arith, ((c .before .before .before .before .before .before .before .before .before .before .before .before .before .before .before .before .before .before .pre) .1 .0) .room)) 17 refl refl ((sym ((c .before .before .before .before .before .before .before .before .before .before .before .before .before .before .before .expect-next) .ensures)) ∙ (c .before .before .before .before .before .before .before .before .before .before .before .before .before .d) .given .1) in
-    let x = sym ((c .before .before .before .before .before .before .before .before .before .before .before .look-ahead) .ensures) ∙ (c .before .before .before .before .before .before .before .before .before .t) .given .1 in
-    let p = look-place ((c .before .before .before .before .before .before .before .before .before .before .before .before .before .before .before .before .before .before .args) .stream .now) ((c .before .before .before .before .before .before .before .before .before .before .before .before .before .d) .given .0 .1 .0) x in
-    let y : member ((c .before .before .before .before .before .before .before .before .before .t) .given .0 .0 .kind) (59 ∷ 4 ∷ 45 ∷ 2 ∷ 3 ∷ 20 ∷ []) ≡ false = (not-among (4 ∷ 45 ∷ 2 ∷ 3 ∷ 20 ∷ []) (λ z. saw ((c .before .before .before .before .before .before .before .before .before .before .before .before .before .before .before .before .before .before .args) .stream .now) ((c .before .before .before .before .before .before .before .before .before .before .before .before .before .d) .given .0 .1 .0) x .real (ap (λ (z : Token). z .kind) (sym (saw ((c .before .before .before .before .before .before .before .before .before .before .before .before .before .before .before .before .before .before .args) .stream .now) ((c .before .before .before .before .before .before .before .before .before .before .before .before .before .d) .given .0 .1 .0) x .token)) ∙ z)) (not-among (45 ∷ 2 ∷ 3 ∷ 20 ∷ []) ((c .before .before .before .before .before .before .before .match3) .rest .0 .0 .0 .0 .1) (not-among (2 ∷ 3 ∷ 20 ∷ []) ((c .before .before .before .before .before .before .before .match3) .rest .0 .0 .0 .1) (not-among (3 ∷ 20 ∷ []) ((c .before .before .before .before .before .before .before .match3) .rest .0 .0 .1) (not-among (20 ∷ []) ((c .before .before .before .before .before .before .before .match3) .rest .0 .1) (not-among ([]) ((c .before .before .before .before .before .before .before .match3) .rest .1) refl)))))) in
-    let o = look-out ((c .before .before .before .before .before .before .before .before .before .before .before .before .before .before .before .before .before .before .args) .stream .now) (ranks ((c .before .before .before .before .before .before .before .before .before .before .before .before .before .before .before .before .before .before .args) .ranking)) 0 (readers ((c .before .before .before .before .before .before .before .before .before .before .before .before .before .before .before .before .before .before .args) .stream .now) (ranks ((c .before .before .before .before .before .before .before .before .before .before .before .before .before .before .before .before .before .before .args) .ranking)) ((c .before .before .before .before .before .before .before .before .before .before .before .before .before .before .before .before .before .before .args) .g)) (hold 0 0 none) again ((c .before .before .before .before .before .before .before .before .before .before .before .before .before .d) .given .0 .1 .0) (59 ∷ 4 ∷ 45 ∷ 2 ∷ 3 ∷ 20 ∷ []) empty (explist 1) x y in
+    let p = look-place ((c .before .before .before .before .before .before .before .before .before .before .before .before .before .before .before .before .before .before .args) .stream .now) ((c .before .before .before .before .before .before .before .before .before .before .before .before .before .d) .given .0 .1 .0) (sym ((c .before .before .before .before .before .before .before .before .before .before .before .look-ahead) .ensures) ∙ (c .before .before .before .before .before .before .before .before .before .t) .given .1) in
+    let o = look-out ((c .before .before .before .before .before .before .before .before .before .before .before .before .before .before .before .before .before .before .args) .stream .now) (ranks ((c .before .before .before .before .before .before .before .before .before .before .before .before .before .before .before .before .before .before .args) .ranking)) 0 (readers ((c .before .before .before .before .before .before .before .before .before .before .before .before .before .before .before .before .before .before .args) .stream .now) (ranks ((c .before .before .before .before .before .before .before .before .before .before .before .before .before .before .before .before .before .before .args) .ranking)) ((c .before .before .before .before .before .before .before .before .before .before .before .before .before .before .before .before .before .before .args) .g)) (hold 0 0 none) again ((c .before .before .before .before .before .before .before .before .before .before .before .before .before .d) .given .0 .1 .0) (59 ∷ 4 ∷ 45 ∷ 2 ∷ 3 ∷ 20 ∷ []) empty (explist 1) (sym ((c .before .before .before .before .before .before .before .before .before .before .before .look-ahead) .ensures) ∙ (c .before .before .before .before .before .before .before .before .before .t) .given .1) (nor (((c .before .before .before .before .before .before .before .before .before .t) .given .0 .0) .kind) (59 ∷ 4 ∷ 45 ∷ 2 ∷ 3 ∷ 20 ∷ []) (saw-real ((c .before .before .before .before .before .before .before .before .before .before .before .before .before .before .before .before .before .before .args) .stream .now) ((c .before .before .before .before .before .before .before .before .before .before .before .before .before .d) .given .0 .1 .0) (sym ((c .before .before .before .before .before .before .before .before .before .before .before .look-ahead) .ensures) ∙ (c .before .before .before .before .before .before .before .before .before .t) .given .1)) ((c .before .before .before .before .before .before .before .match3) .rest .0 .0 .0 .0 .1) ((c .before .before .before .before .before .before .before .match3) .rest .0 .0 .0 .1) ((c .before .before .before .before .before .before .before .match3) .rest .0 .0 .1) ((c .before .before .before .before .before .before .before .match3) .rest .0 .1) ((c .before .before .before .before .before .before .before .match3) .rest .1)) in
     ap (wrap ((c .before .before .before .before .before .before .before .before .before .before .before .before .before .before .before .before .before .before .args) .stream .now) 2 opening (((c .before .before .before .before .before .before .before .before .before .before .before .before .before .before .before .before .before .before .args) .c) .place)) (past _ f1 (stop _ (o ∙ rw ((c .before .e3) .given .1) at ((c .before .before .before .before .before .exps) .ensures))))
 
 pub ret-same-length-8 : (t : ℕ) → ret-lts.Need-same-length-8 (
@@ -579,9 +566,7 @@ pub ret-returns-9 : (t : ℕ) → ret-lts.Need-returns-9 (
 unfolding read retstat
 ret-returns-9 t c =
     let f1 = word-fine ((c .before .before .before .before .before .before .before .before .before .before .before .before .before .before .before .before .before .before .before .before .before .before .args) .stream .now) (ranks ((c .before .before .before .before .before .before .before .before .before .before .before .before .before .before .before .before .before .before .before .before .before .before .args) .ranking)) 0 (readers ((c .before .before .before .before .before .before .before .before .before .before .before .before .before .before .before .before .before .before .before .before .before .before .args) .stream .now) (ranks ((c .before .before .before .before .before .before .before .before .before .before .before .before .before .before .before .before .before .before .before .before .before .before .args) .ranking)) ((c .before .before .before .before .before .before .before .before .before .before .before .before .before .before .before .before .before .before .before .before .before .before .args) .g)) (hold 0 0 none) again ((c .before .before .before .before .before .before .before .before .before .before .before .before .before .before .before .before .before .before .before .before .before .before .args) .c) ((c .before .before .before .before .before .before .before .before .before .before .before .before .before .before .before .before .before .before .before .before .before .before .args) .nodes .now) (((c .before .before .before .before .before .before .before .before .before .before .before .before .before .before .before .before .before .before .before .before .before .before .args) .used) + 1) 0 (((c .before .before .before .before .before .before .before .before .before .before .before .before .before .before .before .before .before .before .before .before .before .before .pre) .1 .0) .formed) (omega (arith, ((c .before .before .before .before .before .before .before .before .before .before .before .before .before .before .before .before .before .before .before .before .before .before .pre) .1 .0) .room)) 17 refl refl ((sym ((c .before .before .before .before .before .before .before .before .before .before .before .before .before .before .before .before .before .before .before .expect-next) .ensures)) ∙ (c .before .before .before .before .before .before .before .before .before .before .before .before .before .before .before .before .before .d) .given .1) in
-    let x = sym ((c .before .before .before .before .before .before .before .before .before .before .before .before .before .before .before .look-ahead) .ensures) ∙ (c .before .before .before .before .before .before .before .before .before .before .before .before .before .t) .given .1 in
-    let p = look-place ((c .before .before .before .before .before .before .before .before .before .before .before .before .before .before .before .before .before .before .before .before .before .before .args) .stream .now) ((c .before .before .before .before .before .before .before .before .before .before .before .before .before .before .before .before .before .d) .given .0 .1 .0) x in
-    let y : member ((c .before .before .before .before .before .before .before .before .before .before .before .before .before .t) .given .0 .0 .kind) (59 ∷ 4 ∷ 45 ∷ 2 ∷ 3 ∷ 20 ∷ []) ≡ false = (not-among (4 ∷ 45 ∷ 2 ∷ 3 ∷ 20 ∷ []) (λ z. saw ((c .before .before .before .before .before .before .before .before .before .before .before .before .before .before .before .before .before .before .before .before .before .before .args) .stream .now) ((c .before .before .before .before .before .before .before .before .before .before .before .before .before .before .before .before .before .d) .given .0 .1 .0) x .real (ap (λ (z : Token). z .kind) (sym (saw ((c .before .before .before .before .before .before .before .before .before .before .before .before .before .before .before .before .before .before .before .before .before .before .args) .stream .now) ((c .before .before .before .before .before .before .before .before .before .before .before .before .before .before .before .before .before .d) .given .0 .1 .0) x .token)) ∙ z)) (not-among (45 ∷ 2 ∷ 3 ∷ 20 ∷ []) ((c .before .before .before .before .before .before .before .before .before .before .before .match3) .rest .0 .0 .0 .0 .1) (not-among (2 ∷ 3 ∷ 20 ∷ []) ((c .before .before .before .before .before .before .before .before .before .before .before .match3) .rest .0 .0 .0 .1) (not-among (3 ∷ 20 ∷ []) ((c .before .before .before .before .before .before .before .before .before .before .before .match3) .rest .0 .0 .1) (not-among (20 ∷ []) ((c .before .before .before .before .before .before .before .before .before .before .before .match3) .rest .0 .1) (not-among ([]) ((c .before .before .before .before .before .before .before .before .before .before .before .match3) .rest .1) refl)))))) in
-    let o = look-out ((c .before .before .before .before .before .before .before .before .before .before .before .before .before .before .before .before .before .before .before .before .before .before .args) .stream .now) (ranks ((c .before .before .before .before .before .before .before .before .before .before .before .before .before .before .before .before .before .before .before .before .before .before .args) .ranking)) 0 (readers ((c .before .before .before .before .before .before .before .before .before .before .before .before .before .before .before .before .before .before .before .before .before .before .args) .stream .now) (ranks ((c .before .before .before .before .before .before .before .before .before .before .before .before .before .before .before .before .before .before .before .before .before .before .args) .ranking)) ((c .before .before .before .before .before .before .before .before .before .before .before .before .before .before .before .before .before .before .before .before .before .before .args) .g)) (hold 0 0 none) again ((c .before .before .before .before .before .before .before .before .before .before .before .before .before .before .before .before .before .d) .given .0 .1 .0) (59 ∷ 4 ∷ 45 ∷ 2 ∷ 3 ∷ 20 ∷ []) empty (explist 1) x y in
+    let p = look-place ((c .before .before .before .before .before .before .before .before .before .before .before .before .before .before .before .before .before .before .before .before .before .before .args) .stream .now) ((c .before .before .before .before .before .before .before .before .before .before .before .before .before .before .before .before .before .d) .given .0 .1 .0) (sym ((c .before .before .before .before .before .before .before .before .before .before .before .before .before .before .before .look-ahead) .ensures) ∙ (c .before .before .before .before .before .before .before .before .before .before .before .before .before .t) .given .1) in
+    let o = look-out ((c .before .before .before .before .before .before .before .before .before .before .before .before .before .before .before .before .before .before .before .before .before .before .args) .stream .now) (ranks ((c .before .before .before .before .before .before .before .before .before .before .before .before .before .before .before .before .before .before .before .before .before .before .args) .ranking)) 0 (readers ((c .before .before .before .before .before .before .before .before .before .before .before .before .before .before .before .before .before .before .before .before .before .before .args) .stream .now) (ranks ((c .before .before .before .before .before .before .before .before .before .before .before .before .before .before .before .before .before .before .before .before .before .before .args) .ranking)) ((c .before .before .before .before .before .before .before .before .before .before .before .before .before .before .before .before .before .before .before .before .before .before .args) .g)) (hold 0 0 none) again ((c .before .before .before .before .before .before .before .before .before .before .before .before .before .before .before .before .before .d) .given .0 .1 .0) (59 ∷ 4 ∷ 45 ∷ 2 ∷ 3 ∷ 20 ∷ []) empty (explist 1) (sym ((c .before .before .before .before .before .before .before .before .before .before .before .before .before .before .before .look-ahead) .ensures) ∙ (c .before .before .before .before .before .before .before .before .before .before .before .before .before .t) .given .1) (nor (((c .before .before .before .before .before .before .before .before .before .before .before .before .before .t) .given .0 .0) .kind) (59 ∷ 4 ∷ 45 ∷ 2 ∷ 3 ∷ 20 ∷ []) (saw-real ((c .before .before .before .before .before .before .before .before .before .before .before .before .before .before .before .before .before .before .before .before .before .before .args) .stream .now) ((c .before .before .before .before .before .before .before .before .before .before .before .before .before .before .before .before .before .d) .given .0 .1 .0) (sym ((c .before .before .before .before .before .before .before .before .before .before .before .before .before .before .before .look-ahead) .ensures) ∙ (c .before .before .before .before .before .before .before .before .before .before .before .before .before .t) .given .1)) ((c .before .before .before .before .before .before .before .before .before .before .before .match3) .rest .0 .0 .0 .0 .1) ((c .before .before .before .before .before .before .before .before .before .before .before .match3) .rest .0 .0 .0 .1) ((c .before .before .before .before .before .before .before .before .before .before .before .match3) .rest .0 .0 .1) ((c .before .before .before .before .before .before .before .before .before .before .before .match3) .rest .0 .1) ((c .before .before .before .before .before .before .before .before .before .before .before .match3) .rest .1)) in
     let f2 = rw ((c .before .before .before .before .before .f) .given .1) at ((c .before .before .before .before .before .before .before .before .before .exps) .ensures) in
     closed ((c .before .before .before .before .before .before .before .before .before .before .before .before .before .before .before .before .before .before .before .before .before .before .args) .used) 0 2 ((c .before .before .before .before .before .f) .given .0 .1 .1 .0) opening (((c .before .before .before .before .before .before .before .before .before .before .before .before .before .before .before .before .before .before .before .before .before .before .args) .c) .place) ((c .before .before .before .before .before .before .before .before .before .before .before .before .before .before .before .before .before .before .before .before .before .before .args) .line) ((c .before .before .close-return7) .last .1 .0) (read ((c .before .before .before .before .before .before .before .before .before .before .before .before .before .before .before .before .before .before .before .before .before .before .args) .stream .now) (ranks ((c .before .before .before .before .before .before .before .before .before .before .before .before .before .before .before .before .before .before .before .before .before .before .args) .ranking)) 0 (readers ((c .before .before .before .before .before .before .before .before .before .before .before .before .before .before .before .before .before .before .before .before .before .before .args) .stream .now) (ranks ((c .before .before .before .before .before .before .before .before .before .before .before .before .before .before .before .before .before .before .before .before .before .before .args) .ranking)) ((c .before .before .before .before .before .before .before .before .before .before .before .before .before .before .before .before .before .before .before .before .before .before .args) .g)) (hold 0 0 none) (on ahead (59 ∷ 4 ∷ 45 ∷ 2 ∷ 3 ∷ 20 ∷ []) empty (explist 1)) again) (read ((c .before .before .before .before .before .before .before .before .before .before .before .before .before .before .before .before .before .before .before .before .before .before .args) .stream .now) (ranks ((c .before .before .before .before .before .before .before .before .before .before .before .before .before .before .before .before .before .before .before .before .before .before .args) .ranking)) 0 (readers ((c .before .before .before .before .before .before .before .before .before .before .before .before .before .before .before .before .before .before .before .before .before .before .args) .stream .now) (ranks ((c .before .before .before .before .before .before .before .before .before .before .before .before .before .before .before .before .before .before .before .before .before .before .args) .ranking)) ((c .before .before .before .before .before .before .before .before .before .before .before .before .before .before .before .before .before .before .before .before .before .before .args) .g)) (hold 0 0 none) (opt check (45 ∷ []) any) again) f1 (alter o (f2 .0)) (omega (arith, p)) ((c .before .before .close-return7) .result) ((c .before .before .close-return7) .ensures ((c .before .before .before .before .before .before .before .before .before .before .before .before .before .before .before .before .before .before .before .before .before .before .args) .ranking) ((c .before .before .before .before .before .before .before .before .before .before .before .before .before .before .before .before .before .before .before .before .before .before .args) .g)) (omega arith) (λ e x y. (c .before .before .before .before .before .before .before .before .before .before .before .before .before .before .before .before .before .before .before .before .before .before .pre) .1 .1)

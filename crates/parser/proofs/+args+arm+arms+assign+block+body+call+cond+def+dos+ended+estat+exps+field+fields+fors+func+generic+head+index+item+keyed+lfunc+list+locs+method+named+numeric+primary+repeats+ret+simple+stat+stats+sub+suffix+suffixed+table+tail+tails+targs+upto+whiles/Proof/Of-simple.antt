@@ -19,14 +19,13 @@ use Rattle.operators.specs.Ranks.{ranks}
 use Rattle.tree.specs.Forest.{none}
 use Rattle.grammar.specs.Reading.{read, hold, last}
 use Rattle.grammar.specs.Levels.{readers}
-use Rattle.grammar.specs.Term.{leaf}
+use Rattle.grammar.specs.Term.{any, leaf, _⨾_}
 use Rattle.parser.specs.Contract.{again}
-use Rattle.parser.proofs.Steps.{took-next, next-fail}
-use Rattle.parser.proofs.Kit.{alter, lower, kept, stop, onward}
-use Rattle.parser.proofs.Tokens.{ready-after, any-fail, any-fine, get-place}
-use Rattle.grammar.specs.Productions.{simple as simple′}
-use Rattle.parser.proofs.Heads.{simple-float, simple-integer, simple-string, simple-nil, simple-true, simple-false, simple-dots, simple-table, simple-function, simple-other}
-use Rattle.parser.proofs.Moved.{moved-meets}
+use Rattle.parser.proofs.Steps.{took-next, get-place}
+use Rattle.parser.proofs.Kit.{kept, lower, alter, moved, stop, onward}
+use Rattle.parser.proofs.Tokens.{ready-after, any-fail, any-fine}
+use Rattle.parser.proofs.Looks.{by-none, by-kind, by-others}
+use Rattle.grammar.specs.Productions.{funcbody, table as table′, suffixed as suffixed′, simple as simple′}
 
 pub simple-get-next-requires : (t : ℕ) → simple-lts.Need-get-next-requires (
   get-next-reads.Asked,
@@ -266,7 +265,7 @@ pub simple-def-requires : (t : ℕ) → simple-lts.Need-def-requires (
   suffixed-below t,
   suffixed.Post,
 ) (simple-at t) simple.Post
-simple-def-requires t c κs = (omega (arith, (c .before .before .before .before .before .before .before .before .before .before .before .before .pre) .0), ready-after ((c .before .before .before .before .before .before .before .before .before .before .before .before .args) .used) 0 (((c .before .before .before .before .before .before .before .before .before .before .before .before .pre) .1) .formed) (took-next ((c .before .before .before .before .before .before .before .before .before .before .before .before .args) .stream .now) ((c .before .before .before .before .before .before .before .t) .given .0 .1 .0) ((sym ((c .before .before .before .before .take-next) .ensures)) ∙ (c .before .before .e3) .given .1)) (omega (arith, ((c .before .before .before .before .before .before .before .before .before .before .before .before .pre) .1) .room, (get-place ((c .before .before .before .before .before .before .before .before .before .before .before .before .args) .stream .now) ((c .before .before .before .before .before .before .before .before .before .before .before .before .args) .c) (sym ((c .before .before .before .before .before .before .before .before .before .get-next) .ensures) ∙ (c .before .before .before .before .before .before .before .t) .given .1)))))
+simple-def-requires t c κs = (omega (arith, (c .before .before .before .before .before .before .before .before .before .before .before .before .pre) .0), ready-after (((c .before .before .before .before .before .before .before .before .before .before .before .before .pre) .1) .formed) (took-next ((c .before .before .before .before .before .before .before .before .before .before .before .before .args) .stream .now) ((c .before .before .before .before .before .before .before .t) .given .0 .1 .0) ((sym ((c .before .before .before .before .take-next) .ensures)) ∙ (c .before .before .e3) .given .1)) (omega (arith, ((c .before .before .before .before .before .before .before .before .before .before .before .before .pre) .1) .room, (get-place ((c .before .before .before .before .before .before .before .before .before .before .before .before .args) .stream .now) ((c .before .before .before .before .before .before .before .before .before .before .before .before .args) .c) (sym ((c .before .before .before .before .before .before .before .before .before .get-next) .ensures) ∙ (c .before .before .before .before .before .before .before .t) .given .1)))))
 
 pub simple-suffixed-requires : (t : ℕ) → simple-lts.Need-suffixed-requires (
   get-next-reads.Asked,
@@ -331,7 +330,7 @@ pub simple-returns : (t : ℕ) → simple-lts.Need-returns (
   suffixed.Post,
 ) (simple-at t) simple.Post
 unfolding simple′
-simple-returns t c = next-fail ((c .before .before .before .before .before .before .args) .stream .now) (ranks ((c .before .before .before .before .before .before .args) .ranking)) 0 (readers ((c .before .before .before .before .before .before .args) .stream .now) (ranks ((c .before .before .before .before .before .before .args) .ranking)) ((c .before .before .before .before .before .before .args) .g)) (hold 0 0 none) again ((c .before .before .before .before .before .before .args) .c) (56 ∷ []) _ _ (sym ((c .before .before .before .get-next) .ensures) ∙ (c .before .e) .given .1)
+simple-returns t c = by-none ((c .before .before .before .before .before .before .args) .stream .now) (ranks ((c .before .before .before .before .before .before .args) .ranking)) 0 (readers ((c .before .before .before .before .before .before .args) .stream .now) (ranks ((c .before .before .before .before .before .before .args) .ranking)) ((c .before .before .before .before .before .before .args) .g)) (hold 0 0 none) again ((c .before .before .before .before .before .before .args) .c) (56, any ⨾ leaf 21) ((55, any ⨾ leaf 20) ∷ (57, any ⨾ leaf 22) ∷ (12, any ⨾ leaf 23) ∷ (19, any ⨾ leaf 24) ∷ (5, any ⨾ leaf 25) ∷ (36, any ⨾ leaf 26) ∷ (53, table′) ∷ (7, any ⨾ funcbody) ∷ []) suffixed′ (sym ((c .before .before .before .get-next) .ensures) ∙ (c .before .e) .given .1)
 
 pub simple-same-length : (t : ℕ) → simple-lts.Need-same-length (
   get-next-reads.Asked,
@@ -363,7 +362,8 @@ pub simple-returns-2 : (t : ℕ) → simple-lts.Need-returns-2 (
   suffixed-below t,
   suffixed.Post,
 ) (simple-at t) simple.Post
-simple-returns-2 t c = moved-meets ((c .before .before .before .before .before .before .before .before .before .before .before .args) .stream .now) (((c .before .before .before .before .before .before .t) .given .0 .1 .0) .place + 1) (((c .before .before .before .before .before .before .before .before .before .before .before .args) .c) .place + 1) ((c .before .before .before .before .before .before .before .before .before .before .before .args) .used) 0 ((c .before .before .before .before .before .before .before .before .before .before .before .args) .nodes .now) ((c .before .before .leaf) .last .1 .0) ((c .before .before .leaf) .result) (simple-float ((c .before .before .before .before .before .before .before .before .before .before .before .args) .stream .now) (ranks ((c .before .before .before .before .before .before .before .before .before .before .before .args) .ranking)) 0 (readers ((c .before .before .before .before .before .before .before .before .before .before .before .args) .stream .now) (ranks ((c .before .before .before .before .before .before .before .before .before .before .before .args) .ranking)) ((c .before .before .before .before .before .before .before .before .before .before .before .args) .g)) (hold 0 0 none) again ((c .before .before .before .before .before .before .before .before .before .before .before .args) .c) (sym ((c .before .before .before .before .before .before .before .before .get-next) .ensures) ∙ (c .before .before .before .before .before .before .t) .given .1) ((c .before .before .before .before .match2) .keys1)) (omega (arith, (get-place ((c .before .before .before .before .before .before .before .before .before .before .before .args) .stream .now) ((c .before .before .before .before .before .before .before .before .before .before .before .args) .c) (sym ((c .before .before .before .before .before .before .before .before .get-next) .ensures) ∙ (c .before .before .before .before .before .before .t) .given .1)))) ((c .before .before .leaf) .ensures ((c .before .before .before .before .before .before .before .before .before .before .before .args) .ranking) ((c .before .before .before .before .before .before .before .before .before .before .before .args) .g))
+unfolding simple′
+simple-returns-2 t c = moved ((c .before .before .before .before .before .before .before .before .before .before .before .args) .stream .now) ((c .before .before .before .before .before .before .before .before .before .before .before .args) .used) 0 ((c .before .before .before .before .before .before .before .before .before .before .before .args) .nodes .now) ((c .before .before .leaf) .last .1 .0) ((c .before .before .leaf) .result) (by-kind ((c .before .before .before .before .before .before .before .before .before .before .before .args) .stream .now) (ranks ((c .before .before .before .before .before .before .before .before .before .before .before .args) .ranking)) 0 (readers ((c .before .before .before .before .before .before .before .before .before .before .before .args) .stream .now) (ranks ((c .before .before .before .before .before .before .before .before .before .before .before .args) .ranking)) ((c .before .before .before .before .before .before .before .before .before .before .before .args) .g)) (hold 0 0 none) again ((c .before .before .before .before .before .before .before .before .before .before .before .args) .c) (56, any ⨾ leaf 21) ((55, any ⨾ leaf 20) ∷ (57, any ⨾ leaf 22) ∷ (12, any ⨾ leaf 23) ∷ (19, any ⨾ leaf 24) ∷ (5, any ⨾ leaf 25) ∷ (36, any ⨾ leaf 26) ∷ (53, table′) ∷ (7, any ⨾ funcbody) ∷ []) suffixed′ (sym ((c .before .before .before .before .before .before .before .before .get-next) .ensures) ∙ (c .before .before .before .before .before .before .t) .given .1) ((c .before .before .before .before .match2) .keys1)) (omega (arith, (get-place ((c .before .before .before .before .before .before .before .before .before .before .before .args) .stream .now) ((c .before .before .before .before .before .before .before .before .before .before .before .args) .c) (sym ((c .before .before .before .before .before .before .before .before .get-next) .ensures) ∙ (c .before .before .before .before .before .before .t) .given .1)))) ((c .before .before .leaf) .ensures ((c .before .before .before .before .before .before .before .before .before .before .before .args) .ranking) ((c .before .before .before .before .before .before .before .before .before .before .before .args) .g))
 
 pub simple-same-length-2 : (t : ℕ) → simple-lts.Need-same-length-2 (
   get-next-reads.Asked,
@@ -395,7 +395,8 @@ pub simple-returns-3 : (t : ℕ) → simple-lts.Need-returns-3 (
   suffixed-below t,
   suffixed.Post,
 ) (simple-at t) simple.Post
-simple-returns-3 t c = moved-meets ((c .before .before .before .before .before .before .before .before .before .before .before .args) .stream .now) (((c .before .before .before .before .before .before .t) .given .0 .1 .0) .place + 1) (((c .before .before .before .before .before .before .before .before .before .before .before .args) .c) .place + 1) ((c .before .before .before .before .before .before .before .before .before .before .before .args) .used) 0 ((c .before .before .before .before .before .before .before .before .before .before .before .args) .nodes .now) ((c .before .before .leaf2) .last .1 .0) ((c .before .before .leaf2) .result) (simple-integer ((c .before .before .before .before .before .before .before .before .before .before .before .args) .stream .now) (ranks ((c .before .before .before .before .before .before .before .before .before .before .before .args) .ranking)) 0 (readers ((c .before .before .before .before .before .before .before .before .before .before .before .args) .stream .now) (ranks ((c .before .before .before .before .before .before .before .before .before .before .before .args) .ranking)) ((c .before .before .before .before .before .before .before .before .before .before .before .args) .g)) (hold 0 0 none) again ((c .before .before .before .before .before .before .before .before .before .before .before .args) .c) (sym ((c .before .before .before .before .before .before .before .before .get-next) .ensures) ∙ (c .before .before .before .before .before .before .t) .given .1) ((c .before .before .before .before .match2) .keys2)) (omega (arith, (get-place ((c .before .before .before .before .before .before .before .before .before .before .before .args) .stream .now) ((c .before .before .before .before .before .before .before .before .before .before .before .args) .c) (sym ((c .before .before .before .before .before .before .before .before .get-next) .ensures) ∙ (c .before .before .before .before .before .before .t) .given .1)))) ((c .before .before .leaf2) .ensures ((c .before .before .before .before .before .before .before .before .before .before .before .args) .ranking) ((c .before .before .before .before .before .before .before .before .before .before .before .args) .g))
+unfolding simple′
+simple-returns-3 t c = moved ((c .before .before .before .before .before .before .before .before .before .before .before .args) .stream .now) ((c .before .before .before .before .before .before .before .before .before .before .before .args) .used) 0 ((c .before .before .before .before .before .before .before .before .before .before .before .args) .nodes .now) ((c .before .before .leaf2) .last .1 .0) ((c .before .before .leaf2) .result) (by-kind ((c .before .before .before .before .before .before .before .before .before .before .before .args) .stream .now) (ranks ((c .before .before .before .before .before .before .before .before .before .before .before .args) .ranking)) 0 (readers ((c .before .before .before .before .before .before .before .before .before .before .before .args) .stream .now) (ranks ((c .before .before .before .before .before .before .before .before .before .before .before .args) .ranking)) ((c .before .before .before .before .before .before .before .before .before .before .before .args) .g)) (hold 0 0 none) again ((c .before .before .before .before .before .before .before .before .before .before .before .args) .c) (56, any ⨾ leaf 21) ((55, any ⨾ leaf 20) ∷ (57, any ⨾ leaf 22) ∷ (12, any ⨾ leaf 23) ∷ (19, any ⨾ leaf 24) ∷ (5, any ⨾ leaf 25) ∷ (36, any ⨾ leaf 26) ∷ (53, table′) ∷ (7, any ⨾ funcbody) ∷ []) suffixed′ (sym ((c .before .before .before .before .before .before .before .before .get-next) .ensures) ∙ (c .before .before .before .before .before .before .t) .given .1) ((c .before .before .before .before .match2) .keys2)) (omega (arith, (get-place ((c .before .before .before .before .before .before .before .before .before .before .before .args) .stream .now) ((c .before .before .before .before .before .before .before .before .before .before .before .args) .c) (sym ((c .before .before .before .before .before .before .before .before .get-next) .ensures) ∙ (c .before .before .before .before .before .before .t) .given .1)))) ((c .before .before .leaf2) .ensures ((c .before .before .before .before .before .before .before .before .before .before .before .args) .ranking) ((c .before .before .before .before .before .before .before .before .before .before .before .args) .g))
 
 pub simple-same-length-3 : (t : ℕ) → simple-lts.Need-same-length-3 (
   get-next-reads.Asked,
@@ -427,7 +428,8 @@ pub simple-returns-4 : (t : ℕ) → simple-lts.Need-returns-4 (
   suffixed-below t,
   suffixed.Post,
 ) (simple-at t) simple.Post
-simple-returns-4 t c = moved-meets ((c .before .before .before .before .before .before .before .before .before .before .before .args) .stream .now) (((c .before .before .before .before .before .before .t) .given .0 .1 .0) .place + 1) (((c .before .before .before .before .before .before .before .before .before .before .before .args) .c) .place + 1) ((c .before .before .before .before .before .before .before .before .before .before .before .args) .used) 0 ((c .before .before .before .before .before .before .before .before .before .before .before .args) .nodes .now) ((c .before .before .leaf3) .last .1 .0) ((c .before .before .leaf3) .result) (simple-string ((c .before .before .before .before .before .before .before .before .before .before .before .args) .stream .now) (ranks ((c .before .before .before .before .before .before .before .before .before .before .before .args) .ranking)) 0 (readers ((c .before .before .before .before .before .before .before .before .before .before .before .args) .stream .now) (ranks ((c .before .before .before .before .before .before .before .before .before .before .before .args) .ranking)) ((c .before .before .before .before .before .before .before .before .before .before .before .args) .g)) (hold 0 0 none) again ((c .before .before .before .before .before .before .before .before .before .before .before .args) .c) (sym ((c .before .before .before .before .before .before .before .before .get-next) .ensures) ∙ (c .before .before .before .before .before .before .t) .given .1) ((c .before .before .before .before .match2) .keys3)) (omega (arith, (get-place ((c .before .before .before .before .before .before .before .before .before .before .before .args) .stream .now) ((c .before .before .before .before .before .before .before .before .before .before .before .args) .c) (sym ((c .before .before .before .before .before .before .before .before .get-next) .ensures) ∙ (c .before .before .before .before .before .before .t) .given .1)))) ((c .before .before .leaf3) .ensures ((c .before .before .before .before .before .before .before .before .before .before .before .args) .ranking) ((c .before .before .before .before .before .before .before .before .before .before .before .args) .g))
+unfolding simple′
+simple-returns-4 t c = moved ((c .before .before .before .before .before .before .before .before .before .before .before .args) .stream .now) ((c .before .before .before .before .before .before .before .before .before .before .before .args) .used) 0 ((c .before .before .before .before .before .before .before .before .before .before .before .args) .nodes .now) ((c .before .before .leaf3) .last .1 .0) ((c .before .before .leaf3) .result) (by-kind ((c .before .before .before .before .before .before .before .before .before .before .before .args) .stream .now) (ranks ((c .before .before .before .before .before .before .before .before .before .before .before .args) .ranking)) 0 (readers ((c .before .before .before .before .before .before .before .before .before .before .before .args) .stream .now) (ranks ((c .before .before .before .before .before .before .before .before .before .before .before .args) .ranking)) ((c .before .before .before .before .before .before .before .before .before .before .before .args) .g)) (hold 0 0 none) again ((c .before .before .before .before .before .before .before .before .before .before .before .args) .c) (56, any ⨾ leaf 21) ((55, any ⨾ leaf 20) ∷ (57, any ⨾ leaf 22) ∷ (12, any ⨾ leaf 23) ∷ (19, any ⨾ leaf 24) ∷ (5, any ⨾ leaf 25) ∷ (36, any ⨾ leaf 26) ∷ (53, table′) ∷ (7, any ⨾ funcbody) ∷ []) suffixed′ (sym ((c .before .before .before .before .before .before .before .before .get-next) .ensures) ∙ (c .before .before .before .before .before .before .t) .given .1) ((c .before .before .before .before .match2) .keys3)) (omega (arith, (get-place ((c .before .before .before .before .before .before .before .before .before .before .before .args) .stream .now) ((c .before .before .before .before .before .before .before .before .before .before .before .args) .c) (sym ((c .before .before .before .before .before .before .before .before .get-next) .ensures) ∙ (c .before .before .before .before .before .before .t) .given .1)))) ((c .before .before .leaf3) .ensures ((c .before .before .before .before .before .before .before .before .before .before .before .args) .ranking) ((c .before .before .before .before .before .before .before .before .before .before .before .args) .g))
 
 pub simple-same-length-4 : (t : ℕ) → simple-lts.Need-same-length-4 (
   get-next-reads.Asked,
@@ -459,7 +461,8 @@ pub simple-returns-5 : (t : ℕ) → simple-lts.Need-returns-5 (
   suffixed-below t,
   suffixed.Post,
 ) (simple-at t) simple.Post
-simple-returns-5 t c = moved-meets ((c .before .before .before .before .before .before .before .before .before .before .before .args) .stream .now) (((c .before .before .before .before .before .before .t) .given .0 .1 .0) .place + 1) (((c .before .before .before .before .before .before .before .before .before .before .before .args) .c) .place + 1) ((c .before .before .before .before .before .before .before .before .before .before .before .args) .used) 0 ((c .before .before .before .before .before .before .before .before .before .before .before .args) .nodes .now) ((c .before .before .leaf4) .last .1 .0) ((c .before .before .leaf4) .result) (simple-nil ((c .before .before .before .before .before .before .before .before .before .before .before .args) .stream .now) (ranks ((c .before .before .before .before .before .before .before .before .before .before .before .args) .ranking)) 0 (readers ((c .before .before .before .before .before .before .before .before .before .before .before .args) .stream .now) (ranks ((c .before .before .before .before .before .before .before .before .before .before .before .args) .ranking)) ((c .before .before .before .before .before .before .before .before .before .before .before .args) .g)) (hold 0 0 none) again ((c .before .before .before .before .before .before .before .before .before .before .before .args) .c) (sym ((c .before .before .before .before .before .before .before .before .get-next) .ensures) ∙ (c .before .before .before .before .before .before .t) .given .1) ((c .before .before .before .before .match2) .keys4)) (omega (arith, (get-place ((c .before .before .before .before .before .before .before .before .before .before .before .args) .stream .now) ((c .before .before .before .before .before .before .before .before .before .before .before .args) .c) (sym ((c .before .before .before .before .before .before .before .before .get-next) .ensures) ∙ (c .before .before .before .before .before .before .t) .given .1)))) ((c .before .before .leaf4) .ensures ((c .before .before .before .before .before .before .before .before .before .before .before .args) .ranking) ((c .before .before .before .before .before .before .before .before .before .before .before .args) .g))
+unfolding simple′
+simple-returns-5 t c = moved ((c .before .before .before .before .before .before .before .before .before .before .before .args) .stream .now) ((c .before .before .before .before .before .before .before .before .before .before .before .args) .used) 0 ((c .before .before .before .before .before .before .before .before .before .before .before .args) .nodes .now) ((c .before .before .leaf4) .last .1 .0) ((c .before .before .leaf4) .result) (by-kind ((c .before .before .before .before .before .before .before .before .before .before .before .args) .stream .now) (ranks ((c .before .before .before .before .before .before .before .before .before .before .before .args) .ranking)) 0 (readers ((c .before .before .before .before .before .before .before .before .before .before .before .args) .stream .now) (ranks ((c .before .before .before .before .before .before .before .before .before .before .before .args) .ranking)) ((c .before .before .before .before .before .before .before .before .before .before .before .args) .g)) (hold 0 0 none) again ((c .before .before .before .before .before .before .before .before .before .before .before .args) .c) (56, any ⨾ leaf 21) ((55, any ⨾ leaf 20) ∷ (57, any ⨾ leaf 22) ∷ (12, any ⨾ leaf 23) ∷ (19, any ⨾ leaf 24) ∷ (5, any ⨾ leaf 25) ∷ (36, any ⨾ leaf 26) ∷ (53, table′) ∷ (7, any ⨾ funcbody) ∷ []) suffixed′ (sym ((c .before .before .before .before .before .before .before .before .get-next) .ensures) ∙ (c .before .before .before .before .before .before .t) .given .1) ((c .before .before .before .before .match2) .keys4)) (omega (arith, (get-place ((c .before .before .before .before .before .before .before .before .before .before .before .args) .stream .now) ((c .before .before .before .before .before .before .before .before .before .before .before .args) .c) (sym ((c .before .before .before .before .before .before .before .before .get-next) .ensures) ∙ (c .before .before .before .before .before .before .t) .given .1)))) ((c .before .before .leaf4) .ensures ((c .before .before .before .before .before .before .before .before .before .before .before .args) .ranking) ((c .before .before .before .before .before .before .before .before .before .before .before .args) .g))
 
 pub simple-same-length-5 : (t : ℕ) → simple-lts.Need-same-length-5 (
   get-next-reads.Asked,
@@ -491,7 +494,8 @@ pub simple-returns-6 : (t : ℕ) → simple-lts.Need-returns-6 (
   suffixed-below t,
   suffixed.Post,
 ) (simple-at t) simple.Post
-simple-returns-6 t c = moved-meets ((c .before .before .before .before .before .before .before .before .before .before .before .args) .stream .now) (((c .before .before .before .before .before .before .t) .given .0 .1 .0) .place + 1) (((c .before .before .before .before .before .before .before .before .before .before .before .args) .c) .place + 1) ((c .before .before .before .before .before .before .before .before .before .before .before .args) .used) 0 ((c .before .before .before .before .before .before .before .before .before .before .before .args) .nodes .now) ((c .before .before .leaf5) .last .1 .0) ((c .before .before .leaf5) .result) (simple-true ((c .before .before .before .before .before .before .before .before .before .before .before .args) .stream .now) (ranks ((c .before .before .before .before .before .before .before .before .before .before .before .args) .ranking)) 0 (readers ((c .before .before .before .before .before .before .before .before .before .before .before .args) .stream .now) (ranks ((c .before .before .before .before .before .before .before .before .before .before .before .args) .ranking)) ((c .before .before .before .before .before .before .before .before .before .before .before .args) .g)) (hold 0 0 none) again ((c .before .before .before .before .before .before .before .before .before .before .before .args) .c) (sym ((c .before .before .before .before .before .before .before .before .get-next) .ensures) ∙ (c .before .before .before .before .before .before .t) .given .1) ((c .before .before .before .before .match2) .keys5)) (omega (arith, (get-place ((c .before .before .before .before .before .before .before .before .before .before .before .args) .stream .now) ((c .before .before .before .before .before .before .before .before .before .before .before .args) .c) (sym ((c .before .before .before .before .before .before .before .before .get-next) .ensures) ∙ (c .before .before .before .before .before .before .t) .given .1)))) ((c .before .before .leaf5) .ensures ((c .before .before .before .before .before .before .before .before .before .before .before .args) .ranking) ((c .before .before .before .before .before .before .before .before .before .before .before .args) .g))
+unfolding simple′
+simple-returns-6 t c = moved ((c .before .before .before .before .before .before .before .before .before .before .before .args) .stream .now) ((c .before .before .before .before .before .before .before .before .before .before .before .args) .used) 0 ((c .before .before .before .before .before .before .before .before .before .before .before .args) .nodes .now) ((c .before .before .leaf5) .last .1 .0) ((c .before .before .leaf5) .result) (by-kind ((c .before .before .before .before .before .before .before .before .before .before .before .args) .stream .now) (ranks ((c .before .before .before .before .before .before .before .before .before .before .before .args) .ranking)) 0 (readers ((c .before .before .before .before .before .before .before .before .before .before .before .args) .stream .now) (ranks ((c .before .before .before .before .before .before .before .before .before .before .before .args) .ranking)) ((c .before .before .before .before .before .before .before .before .before .before .before .args) .g)) (hold 0 0 none) again ((c .before .before .before .before .before .before .before .before .before .before .before .args) .c) (56, any ⨾ leaf 21) ((55, any ⨾ leaf 20) ∷ (57, any ⨾ leaf 22) ∷ (12, any ⨾ leaf 23) ∷ (19, any ⨾ leaf 24) ∷ (5, any ⨾ leaf 25) ∷ (36, any ⨾ leaf 26) ∷ (53, table′) ∷ (7, any ⨾ funcbody) ∷ []) suffixed′ (sym ((c .before .before .before .before .before .before .before .before .get-next) .ensures) ∙ (c .before .before .before .before .before .before .t) .given .1) ((c .before .before .before .before .match2) .keys5)) (omega (arith, (get-place ((c .before .before .before .before .before .before .before .before .before .before .before .args) .stream .now) ((c .before .before .before .before .before .before .before .before .before .before .before .args) .c) (sym ((c .before .before .before .before .before .before .before .before .get-next) .ensures) ∙ (c .before .before .before .before .before .before .t) .given .1)))) ((c .before .before .leaf5) .ensures ((c .before .before .before .before .before .before .before .before .before .before .before .args) .ranking) ((c .before .before .before .before .before .before .before .before .before .before .before .args) .g))
 
 pub simple-same-length-6 : (t : ℕ) → simple-lts.Need-same-length-6 (
   get-next-reads.Asked,
@@ -523,7 +527,8 @@ pub simple-returns-7 : (t : ℕ) → simple-lts.Need-returns-7 (
   suffixed-below t,
   suffixed.Post,
 ) (simple-at t) simple.Post
-simple-returns-7 t c = moved-meets ((c .before .before .before .before .before .before .before .before .before .before .before .args) .stream .now) (((c .before .before .before .before .before .before .t) .given .0 .1 .0) .place + 1) (((c .before .before .before .before .before .before .before .before .before .before .before .args) .c) .place + 1) ((c .before .before .before .before .before .before .before .before .before .before .before .args) .used) 0 ((c .before .before .before .before .before .before .before .before .before .before .before .args) .nodes .now) ((c .before .before .leaf6) .last .1 .0) ((c .before .before .leaf6) .result) (simple-false ((c .before .before .before .before .before .before .before .before .before .before .before .args) .stream .now) (ranks ((c .before .before .before .before .before .before .before .before .before .before .before .args) .ranking)) 0 (readers ((c .before .before .before .before .before .before .before .before .before .before .before .args) .stream .now) (ranks ((c .before .before .before .before .before .before .before .before .before .before .before .args) .ranking)) ((c .before .before .before .before .before .before .before .before .before .before .before .args) .g)) (hold 0 0 none) again ((c .before .before .before .before .before .before .before .before .before .before .before .args) .c) (sym ((c .before .before .before .before .before .before .before .before .get-next) .ensures) ∙ (c .before .before .before .before .before .before .t) .given .1) ((c .before .before .before .before .match2) .keys6)) (omega (arith, (get-place ((c .before .before .before .before .before .before .before .before .before .before .before .args) .stream .now) ((c .before .before .before .before .before .before .before .before .before .before .before .args) .c) (sym ((c .before .before .before .before .before .before .before .before .get-next) .ensures) ∙ (c .before .before .before .before .before .before .t) .given .1)))) ((c .before .before .leaf6) .ensures ((c .before .before .before .before .before .before .before .before .before .before .before .args) .ranking) ((c .before .before .before .before .before .before .before .before .before .before .before .args) .g))
+unfolding simple′
+simple-returns-7 t c = moved ((c .before .before .before .before .before .before .before .before .before .before .before .args) .stream .now) ((c .before .before .before .before .before .before .before .before .before .before .before .args) .used) 0 ((c .before .before .before .before .before .before .before .before .before .before .before .args) .nodes .now) ((c .before .before .leaf6) .last .1 .0) ((c .before .before .leaf6) .result) (by-kind ((c .before .before .before .before .before .before .before .before .before .before .before .args) .stream .now) (ranks ((c .before .before .before .before .before .before .before .before .before .before .before .args) .ranking)) 0 (readers ((c .before .before .before .before .before .before .before .before .before .before .before .args) .stream .now) (ranks ((c .before .before .before .before .before .before .before .before .before .before .before .args) .ranking)) ((c .before .before .before .before .before .before .before .before .before .before .before .args) .g)) (hold 0 0 none) again ((c .before .before .before .before .before .before .before .before .before .before .before .args) .c) (56, any ⨾ leaf 21) ((55, any ⨾ leaf 20) ∷ (57, any ⨾ leaf 22) ∷ (12, any ⨾ leaf 23) ∷ (19, any ⨾ leaf 24) ∷ (5, any ⨾ leaf 25) ∷ (36, any ⨾ leaf 26) ∷ (53, table′) ∷ (7, any ⨾ funcbody) ∷ []) suffixed′ (sym ((c .before .before .before .before .before .before .before .before .get-next) .ensures) ∙ (c .before .before .before .before .before .before .t) .given .1) ((c .before .before .before .before .match2) .keys6)) (omega (arith, (get-place ((c .before .before .before .before .before .before .before .before .before .before .before .args) .stream .now) ((c .before .before .before .before .before .before .before .before .before .before .before .args) .c) (sym ((c .before .before .before .before .before .before .before .before .get-next) .ensures) ∙ (c .before .before .before .before .before .before .t) .given .1)))) ((c .before .before .leaf6) .ensures ((c .before .before .before .before .before .before .before .before .before .before .before .args) .ranking) ((c .before .before .before .before .before .before .before .before .before .before .before .args) .g))
 
 pub simple-same-length-7 : (t : ℕ) → simple-lts.Need-same-length-7 (
   get-next-reads.Asked,
@@ -555,7 +560,8 @@ pub simple-returns-8 : (t : ℕ) → simple-lts.Need-returns-8 (
   suffixed-below t,
   suffixed.Post,
 ) (simple-at t) simple.Post
-simple-returns-8 t c = moved-meets ((c .before .before .before .before .before .before .before .before .before .before .before .args) .stream .now) (((c .before .before .before .before .before .before .t) .given .0 .1 .0) .place + 1) (((c .before .before .before .before .before .before .before .before .before .before .before .args) .c) .place + 1) ((c .before .before .before .before .before .before .before .before .before .before .before .args) .used) 0 ((c .before .before .before .before .before .before .before .before .before .before .before .args) .nodes .now) ((c .before .before .leaf7) .last .1 .0) ((c .before .before .leaf7) .result) (simple-dots ((c .before .before .before .before .before .before .before .before .before .before .before .args) .stream .now) (ranks ((c .before .before .before .before .before .before .before .before .before .before .before .args) .ranking)) 0 (readers ((c .before .before .before .before .before .before .before .before .before .before .before .args) .stream .now) (ranks ((c .before .before .before .before .before .before .before .before .before .before .before .args) .ranking)) ((c .before .before .before .before .before .before .before .before .before .before .before .args) .g)) (hold 0 0 none) again ((c .before .before .before .before .before .before .before .before .before .before .before .args) .c) (sym ((c .before .before .before .before .before .before .before .before .get-next) .ensures) ∙ (c .before .before .before .before .before .before .t) .given .1) ((c .before .before .before .before .match2) .keys7)) (omega (arith, (get-place ((c .before .before .before .before .before .before .before .before .before .before .before .args) .stream .now) ((c .before .before .before .before .before .before .before .before .before .before .before .args) .c) (sym ((c .before .before .before .before .before .before .before .before .get-next) .ensures) ∙ (c .before .before .before .before .before .before .t) .given .1)))) ((c .before .before .leaf7) .ensures ((c .before .before .before .before .before .before .before .before .before .before .before .args) .ranking) ((c .before .before .before .before .before .before .before .before .before .before .before .args) .g))
+unfolding simple′
+simple-returns-8 t c = moved ((c .before .before .before .before .before .before .before .before .before .before .before .args) .stream .now) ((c .before .before .before .before .before .before .before .before .before .before .before .args) .used) 0 ((c .before .before .before .before .before .before .before .before .before .before .before .args) .nodes .now) ((c .before .before .leaf7) .last .1 .0) ((c .before .before .leaf7) .result) (by-kind ((c .before .before .before .before .before .before .before .before .before .before .before .args) .stream .now) (ranks ((c .before .before .before .before .before .before .before .before .before .before .before .args) .ranking)) 0 (readers ((c .before .before .before .before .before .before .before .before .before .before .before .args) .stream .now) (ranks ((c .before .before .before .before .before .before .before .before .before .before .before .args) .ranking)) ((c .before .before .before .before .before .before .before .before .before .before .before .args) .g)) (hold 0 0 none) again ((c .before .before .before .before .before .before .before .before .before .before .before .args) .c) (56, any ⨾ leaf 21) ((55, any ⨾ leaf 20) ∷ (57, any ⨾ leaf 22) ∷ (12, any ⨾ leaf 23) ∷ (19, any ⨾ leaf 24) ∷ (5, any ⨾ leaf 25) ∷ (36, any ⨾ leaf 26) ∷ (53, table′) ∷ (7, any ⨾ funcbody) ∷ []) suffixed′ (sym ((c .before .before .before .before .before .before .before .before .get-next) .ensures) ∙ (c .before .before .before .before .before .before .t) .given .1) ((c .before .before .before .before .match2) .keys7)) (omega (arith, (get-place ((c .before .before .before .before .before .before .before .before .before .before .before .args) .stream .now) ((c .before .before .before .before .before .before .before .before .before .before .before .args) .c) (sym ((c .before .before .before .before .before .before .before .before .get-next) .ensures) ∙ (c .before .before .before .before .before .before .t) .given .1)))) ((c .before .before .leaf7) .ensures ((c .before .before .before .before .before .before .before .before .before .before .before .args) .ranking) ((c .before .before .before .before .before .before .before .before .before .before .before .args) .g))
 
 pub simple-same-length-8 : (t : ℕ) → simple-lts.Need-same-length-8 (
   get-next-reads.Asked,
@@ -587,7 +593,8 @@ pub simple-returns-9 : (t : ℕ) → simple-lts.Need-returns-9 (
   suffixed-below t,
   suffixed.Post,
 ) (simple-at t) simple.Post
-simple-returns-9 t c = moved-meets ((c .before .before .before .before .before .before .before .before .before .before .before .args) .stream .now) (((c .before .before .before .before .before .before .t) .given .0 .1 .0) .place + 1) (((c .before .before .before .before .before .before .before .before .before .before .before .args) .c) .place + 1) ((c .before .before .before .before .before .before .before .before .before .before .before .args) .used) 0 ((c .before .before .before .before .before .before .before .before .before .before .before .args) .nodes .now) ((c .before .before .table) .last .1 .0) ((c .before .before .table) .result) (simple-table ((c .before .before .before .before .before .before .before .before .before .before .before .args) .stream .now) (ranks ((c .before .before .before .before .before .before .before .before .before .before .before .args) .ranking)) 0 (readers ((c .before .before .before .before .before .before .before .before .before .before .before .args) .stream .now) (ranks ((c .before .before .before .before .before .before .before .before .before .before .before .args) .ranking)) ((c .before .before .before .before .before .before .before .before .before .before .before .args) .g)) (hold 0 0 none) again ((c .before .before .before .before .before .before .before .before .before .before .before .args) .c) (sym ((c .before .before .before .before .before .before .before .before .get-next) .ensures) ∙ (c .before .before .before .before .before .before .t) .given .1) ((c .before .before .before .before .match2) .keys8)) (omega (arith, (get-place ((c .before .before .before .before .before .before .before .before .before .before .before .args) .stream .now) ((c .before .before .before .before .before .before .before .before .before .before .before .args) .c) (sym ((c .before .before .before .before .before .before .before .before .get-next) .ensures) ∙ (c .before .before .before .before .before .before .t) .given .1)))) ((c .before .before .table) .ensures)
+unfolding simple′
+simple-returns-9 t c = moved ((c .before .before .before .before .before .before .before .before .before .before .before .args) .stream .now) ((c .before .before .before .before .before .before .before .before .before .before .before .args) .used) 0 ((c .before .before .before .before .before .before .before .before .before .before .before .args) .nodes .now) ((c .before .before .table) .last .1 .0) ((c .before .before .table) .result) (by-kind ((c .before .before .before .before .before .before .before .before .before .before .before .args) .stream .now) (ranks ((c .before .before .before .before .before .before .before .before .before .before .before .args) .ranking)) 0 (readers ((c .before .before .before .before .before .before .before .before .before .before .before .args) .stream .now) (ranks ((c .before .before .before .before .before .before .before .before .before .before .before .args) .ranking)) ((c .before .before .before .before .before .before .before .before .before .before .before .args) .g)) (hold 0 0 none) again ((c .before .before .before .before .before .before .before .before .before .before .before .args) .c) (56, any ⨾ leaf 21) ((55, any ⨾ leaf 20) ∷ (57, any ⨾ leaf 22) ∷ (12, any ⨾ leaf 23) ∷ (19, any ⨾ leaf 24) ∷ (5, any ⨾ leaf 25) ∷ (36, any ⨾ leaf 26) ∷ (53, table′) ∷ (7, any ⨾ funcbody) ∷ []) suffixed′ (sym ((c .before .before .before .before .before .before .before .before .get-next) .ensures) ∙ (c .before .before .before .before .before .before .t) .given .1) ((c .before .before .before .before .match2) .keys8)) (omega (arith, (get-place ((c .before .before .before .before .before .before .before .before .before .before .before .args) .stream .now) ((c .before .before .before .before .before .before .before .before .before .before .before .args) .c) (sym ((c .before .before .before .before .before .before .before .before .get-next) .ensures) ∙ (c .before .before .before .before .before .before .t) .given .1)))) ((c .before .before .table) .ensures)
 
 pub simple-returns-10 : (t : ℕ) → simple-lts.Need-returns-10 (
   get-next-reads.Asked,
@@ -603,8 +610,8 @@ pub simple-returns-10 : (t : ℕ) → simple-lts.Need-returns-10 (
   suffixed-below t,
   suffixed.Post,
 ) (simple-at t) simple.Post
-unfolding read
-simple-returns-10 t c = simple-function ((c .before .before .before .before .before .before .before .before .before .before .before .args) .stream .now) (ranks ((c .before .before .before .before .before .before .before .before .before .before .before .args) .ranking)) 0 (readers ((c .before .before .before .before .before .before .before .before .before .before .before .args) .stream .now) (ranks ((c .before .before .before .before .before .before .before .before .before .before .before .args) .ranking)) ((c .before .before .before .before .before .before .before .before .before .before .before .args) .g)) (hold 0 0 none) again ((c .before .before .before .before .before .before .before .before .before .before .before .args) .c) (sym ((c .before .before .before .before .before .before .before .before .get-next) .ensures) ∙ (c .before .before .before .before .before .before .t) .given .1) ((c .before .before .before .before .match2) .keys9) ∙ stop _ (any-fail ((c .before .before .before .before .before .before .before .before .before .before .before .args) .stream .now) (ranks ((c .before .before .before .before .before .before .before .before .before .before .before .args) .ranking)) 0 (readers ((c .before .before .before .before .before .before .before .before .before .before .before .args) .stream .now) (ranks ((c .before .before .before .before .before .before .before .before .before .before .before .args) .ranking)) ((c .before .before .before .before .before .before .before .before .before .before .before .args) .g)) (hold 0 0 none) again ((c .before .before .before .before .before .before .t) .given .0 .1 .0) ((sym ((c .before .before .before .take-next) .ensures)) ∙ (c .before .e2) .given .1))
+unfolding read simple′
+simple-returns-10 t c = by-kind ((c .before .before .before .before .before .before .before .before .before .before .before .args) .stream .now) (ranks ((c .before .before .before .before .before .before .before .before .before .before .before .args) .ranking)) 0 (readers ((c .before .before .before .before .before .before .before .before .before .before .before .args) .stream .now) (ranks ((c .before .before .before .before .before .before .before .before .before .before .before .args) .ranking)) ((c .before .before .before .before .before .before .before .before .before .before .before .args) .g)) (hold 0 0 none) again ((c .before .before .before .before .before .before .before .before .before .before .before .args) .c) (56, any ⨾ leaf 21) ((55, any ⨾ leaf 20) ∷ (57, any ⨾ leaf 22) ∷ (12, any ⨾ leaf 23) ∷ (19, any ⨾ leaf 24) ∷ (5, any ⨾ leaf 25) ∷ (36, any ⨾ leaf 26) ∷ (53, table′) ∷ (7, any ⨾ funcbody) ∷ []) suffixed′ (sym ((c .before .before .before .before .before .before .before .before .get-next) .ensures) ∙ (c .before .before .before .before .before .before .t) .given .1) ((c .before .before .before .before .match2) .keys9) ∙ stop _ (any-fail ((c .before .before .before .before .before .before .before .before .before .before .before .args) .stream .now) (ranks ((c .before .before .before .before .before .before .before .before .before .before .before .args) .ranking)) 0 (readers ((c .before .before .before .before .before .before .before .before .before .before .before .args) .stream .now) (ranks ((c .before .before .before .before .before .before .before .before .before .before .before .args) .ranking)) ((c .before .before .before .before .before .before .before .before .before .before .before .args) .g)) (hold 0 0 none) again ((c .before .before .before .before .before .before .t) .given .0 .1 .0) ((sym ((c .before .before .before .take-next) .ensures)) ∙ (c .before .e2) .given .1))
 
 pub simple-same-length-9 : (t : ℕ) → simple-lts.Need-same-length-9 (
   get-next-reads.Asked,
@@ -636,10 +643,10 @@ pub simple-returns-11 : (t : ℕ) → simple-lts.Need-returns-11 (
   suffixed-below t,
   suffixed.Post,
 ) (simple-at t) simple.Post
-unfolding read
+unfolding read simple′
 simple-returns-11 t c =
     let f1 = any-fine ((c .before .before .before .before .before .before .before .before .before .before .before .before .before .before .before .args) .stream .now) (ranks ((c .before .before .before .before .before .before .before .before .before .before .before .before .before .before .before .args) .ranking)) 0 (readers ((c .before .before .before .before .before .before .before .before .before .before .before .before .before .before .before .args) .stream .now) (ranks ((c .before .before .before .before .before .before .before .before .before .before .before .before .before .before .before .args) .ranking)) ((c .before .before .before .before .before .before .before .before .before .before .before .before .before .before .before .args) .g)) (hold 0 0 none) again ((c .before .before .before .before .before .before .before .before .before .before .t) .given .0 .1 .0) ((c .before .before .before .before .before .before .before .before .before .before .before .before .before .before .before .args) .nodes .now) ((c .before .before .before .before .before .before .before .before .before .before .before .before .before .before .before .args) .used) 0 (((c .before .before .before .before .before .before .before .before .before .before .before .before .before .before .before .pre) .1) .formed) (omega (arith, ((c .before .before .before .before .before .before .before .before .before .before .before .before .before .before .before .pre) .1) .room, (get-place ((c .before .before .before .before .before .before .before .before .before .before .before .before .before .before .before .args) .stream .now) ((c .before .before .before .before .before .before .before .before .before .before .before .before .before .before .before .args) .c) (sym ((c .before .before .before .before .before .before .before .before .before .before .before .before .get-next) .ensures) ∙ (c .before .before .before .before .before .before .before .before .before .before .t) .given .1)))) ((sym ((c .before .before .before .before .before .before .before .take-next) .ensures)) ∙ (c .before .before .before .before .before .e3) .given .1) in
-    moved-meets ((c .before .before .before .before .before .before .before .before .before .before .before .before .before .before .before .args) .stream .now) (((c .before .before .before .before .before .before .before .before .before .before .t) .given .0 .1 .0) .place + 1) (((c .before .before .before .before .before .before .before .before .before .before .before .before .before .before .before .args) .c) .place + 1) ((c .before .before .before .before .before .before .before .before .before .before .before .before .before .before .before .args) .used) 0 ((c .before .before .before .before .before .before .before .before .before .before .before .before .before .before .before .args) .nodes .now) ((c .before .before .def) .last .1 .0) ((c .before .before .def) .result) (simple-function ((c .before .before .before .before .before .before .before .before .before .before .before .before .before .before .before .args) .stream .now) (ranks ((c .before .before .before .before .before .before .before .before .before .before .before .before .before .before .before .args) .ranking)) 0 (readers ((c .before .before .before .before .before .before .before .before .before .before .before .before .before .before .before .args) .stream .now) (ranks ((c .before .before .before .before .before .before .before .before .before .before .before .before .before .before .before .args) .ranking)) ((c .before .before .before .before .before .before .before .before .before .before .before .before .before .before .before .args) .g)) (hold 0 0 none) again ((c .before .before .before .before .before .before .before .before .before .before .before .before .before .before .before .args) .c) (sym ((c .before .before .before .before .before .before .before .before .before .before .before .before .get-next) .ensures) ∙ (c .before .before .before .before .before .before .before .before .before .before .t) .given .1) ((c .before .before .before .before .before .before .before .before .match2) .keys9)) (omega (arith, (get-place ((c .before .before .before .before .before .before .before .before .before .before .before .before .before .before .before .args) .stream .now) ((c .before .before .before .before .before .before .before .before .before .before .before .before .before .before .before .args) .c) (sym ((c .before .before .before .before .before .before .before .before .before .before .before .before .get-next) .ensures) ∙ (c .before .before .before .before .before .before .before .before .before .before .t) .given .1)))) (onward 0 ((c .before .before .def) .last .1 .0) _ f1 ((c .before .before .def) .result) ((c .before .before .def) .ensures) (omega arith))
+    moved ((c .before .before .before .before .before .before .before .before .before .before .before .before .before .before .before .args) .stream .now) ((c .before .before .before .before .before .before .before .before .before .before .before .before .before .before .before .args) .used) 0 ((c .before .before .before .before .before .before .before .before .before .before .before .before .before .before .before .args) .nodes .now) ((c .before .before .def) .last .1 .0) ((c .before .before .def) .result) (by-kind ((c .before .before .before .before .before .before .before .before .before .before .before .before .before .before .before .args) .stream .now) (ranks ((c .before .before .before .before .before .before .before .before .before .before .before .before .before .before .before .args) .ranking)) 0 (readers ((c .before .before .before .before .before .before .before .before .before .before .before .before .before .before .before .args) .stream .now) (ranks ((c .before .before .before .before .before .before .before .before .before .before .before .before .before .before .before .args) .ranking)) ((c .before .before .before .before .before .before .before .before .before .before .before .before .before .before .before .args) .g)) (hold 0 0 none) again ((c .before .before .before .before .before .before .before .before .before .before .before .before .before .before .before .args) .c) (56, any ⨾ leaf 21) ((55, any ⨾ leaf 20) ∷ (57, any ⨾ leaf 22) ∷ (12, any ⨾ leaf 23) ∷ (19, any ⨾ leaf 24) ∷ (5, any ⨾ leaf 25) ∷ (36, any ⨾ leaf 26) ∷ (53, table′) ∷ (7, any ⨾ funcbody) ∷ []) suffixed′ (sym ((c .before .before .before .before .before .before .before .before .before .before .before .before .get-next) .ensures) ∙ (c .before .before .before .before .before .before .before .before .before .before .t) .given .1) ((c .before .before .before .before .before .before .before .before .match2) .keys9)) (omega (arith, (get-place ((c .before .before .before .before .before .before .before .before .before .before .before .before .before .before .before .args) .stream .now) ((c .before .before .before .before .before .before .before .before .before .before .before .before .before .before .before .args) .c) (sym ((c .before .before .before .before .before .before .before .before .before .before .before .before .get-next) .ensures) ∙ (c .before .before .before .before .before .before .before .before .before .before .t) .given .1)))) (onward 0 ((c .before .before .def) .last .1 .0) _ f1 ((c .before .before .def) .result) ((c .before .before .def) .ensures) (omega arith))
 
 pub simple-same-length-10 : (t : ℕ) → simple-lts.Need-same-length-10 (
   get-next-reads.Asked,
@@ -671,9 +678,10 @@ pub simple-returns-12 : (t : ℕ) → simple-lts.Need-returns-12 (
   suffixed-below t,
   suffixed.Post,
 ) (simple-at t) simple.Post
+unfolding simple′
 simple-returns-12 t c =
     let y = rw ((c .before .e4) .given .1) at ((c .before .before .before .before .before .suffixed) .ensures) in
-    (simple-other ((c .before .before .before .before .before .before .before .before .before .before .before .before .before .before .args) .stream .now) (ranks ((c .before .before .before .before .before .before .before .before .before .before .before .before .before .before .args) .ranking)) 0 (readers ((c .before .before .before .before .before .before .before .before .before .before .before .before .before .before .args) .stream .now) (ranks ((c .before .before .before .before .before .before .before .before .before .before .before .before .before .before .args) .ranking)) ((c .before .before .before .before .before .before .before .before .before .before .before .before .before .before .args) .g)) (hold 0 0 none) again ((c .before .before .before .before .before .before .before .before .before .before .before .before .before .before .args) .c) (sym ((c .before .before .before .before .before .before .before .before .before .before .before .get-next) .ensures) ∙ (c .before .before .before .before .before .before .before .before .before .t) .given .1) ((c .before .before .before .before .before .before .before .match2) .rest .0 .0 .0 .0 .0 .0 .0 .0 .1) ((c .before .before .before .before .before .before .before .match2) .rest .0 .0 .0 .0 .0 .0 .0 .1) ((c .before .before .before .before .before .before .before .match2) .rest .0 .0 .0 .0 .0 .0 .1) ((c .before .before .before .before .before .before .before .match2) .rest .0 .0 .0 .0 .0 .1) ((c .before .before .before .before .before .before .before .match2) .rest .0 .0 .0 .0 .1) ((c .before .before .before .before .before .before .before .match2) .rest .0 .0 .0 .1) ((c .before .before .before .before .before .before .before .match2) .rest .0 .0 .1) ((c .before .before .before .before .before .before .before .match2) .rest .0 .1) ((c .before .before .before .before .before .before .before .match2) .rest .1)) ∙ y
+    (by-others ((c .before .before .before .before .before .before .before .before .before .before .before .before .before .before .args) .stream .now) (ranks ((c .before .before .before .before .before .before .before .before .before .before .before .before .before .before .args) .ranking)) 0 (readers ((c .before .before .before .before .before .before .before .before .before .before .before .before .before .before .args) .stream .now) (ranks ((c .before .before .before .before .before .before .before .before .before .before .before .before .before .before .args) .ranking)) ((c .before .before .before .before .before .before .before .before .before .before .before .before .before .before .args) .g)) (hold 0 0 none) again ((c .before .before .before .before .before .before .before .before .before .before .before .before .before .before .args) .c) (56, any ⨾ leaf 21) ((55, any ⨾ leaf 20) ∷ (57, any ⨾ leaf 22) ∷ (12, any ⨾ leaf 23) ∷ (19, any ⨾ leaf 24) ∷ (5, any ⨾ leaf 25) ∷ (36, any ⨾ leaf 26) ∷ (53, table′) ∷ (7, any ⨾ funcbody) ∷ []) suffixed′ (sym ((c .before .before .before .before .before .before .before .before .before .before .before .get-next) .ensures) ∙ (c .before .before .before .before .before .before .before .before .before .t) .given .1) ((c .before .before .before .before .before .before .before .match2) .rest .0 .0 .0 .0 .0 .0 .0 .0 .1) ((c .before .before .before .before .before .before .before .match2) .rest .0 .0 .0 .0 .0 .0 .0 .1) ((c .before .before .before .before .before .before .before .match2) .rest .0 .0 .0 .0 .0 .0 .1) ((c .before .before .before .before .before .before .before .match2) .rest .0 .0 .0 .0 .0 .1) ((c .before .before .before .before .before .before .before .match2) .rest .0 .0 .0 .0 .1) ((c .before .before .before .before .before .before .before .match2) .rest .0 .0 .0 .1) ((c .before .before .before .before .before .before .before .match2) .rest .0 .0 .1) ((c .before .before .before .before .before .before .before .match2) .rest .0 .1) ((c .before .before .before .before .before .before .before .match2) .rest .1)) ∙ y
 
 pub simple-same-length-11 : (t : ℕ) → simple-lts.Need-same-length-11 (
   get-next-reads.Asked,
@@ -705,6 +713,7 @@ pub simple-returns-13 : (t : ℕ) → simple-lts.Need-returns-13 (
   suffixed-below t,
   suffixed.Post,
 ) (simple-at t) simple.Post
+unfolding simple′
 simple-returns-13 t c =
-    let y = rw ((c .before .e5) .given .1) at ((c .before .before .before .before .before .suffixed) .ensures) in
-    lower (((c .before .before .before .before .before .before .before .before .before .before .before .before .before .before .args) .c) .place + 1) 0 (alter (simple-other ((c .before .before .before .before .before .before .before .before .before .before .before .before .before .before .args) .stream .now) (ranks ((c .before .before .before .before .before .before .before .before .before .before .before .before .before .before .args) .ranking)) 0 (readers ((c .before .before .before .before .before .before .before .before .before .before .before .before .before .before .args) .stream .now) (ranks ((c .before .before .before .before .before .before .before .before .before .before .before .before .before .before .args) .ranking)) ((c .before .before .before .before .before .before .before .before .before .before .before .before .before .before .args) .g)) (hold 0 0 none) again ((c .before .before .before .before .before .before .before .before .before .before .before .before .before .before .args) .c) (sym ((c .before .before .before .before .before .before .before .before .before .before .before .get-next) .ensures) ∙ (c .before .before .before .before .before .before .before .before .before .t) .given .1) ((c .before .before .before .before .before .before .before .match2) .rest .0 .0 .0 .0 .0 .0 .0 .0 .1) ((c .before .before .before .before .before .before .before .match2) .rest .0 .0 .0 .0 .0 .0 .0 .1) ((c .before .before .before .before .before .before .before .match2) .rest .0 .0 .0 .0 .0 .0 .1) ((c .before .before .before .before .before .before .before .match2) .rest .0 .0 .0 .0 .0 .1) ((c .before .before .before .before .before .before .before .match2) .rest .0 .0 .0 .0 .1) ((c .before .before .before .before .before .before .before .match2) .rest .0 .0 .0 .1) ((c .before .before .before .before .before .before .before .match2) .rest .0 .0 .1) ((c .before .before .before .before .before .before .before .match2) .rest .0 .1) ((c .before .before .before .before .before .before .before .match2) .rest .1)) (y .0)) (omega (arith, (get-place ((c .before .before .before .before .before .before .before .before .before .before .before .before .before .before .args) .stream .now) ((c .before .before .before .before .before .before .before .before .before .before .before .before .before .before .args) .c) (sym ((c .before .before .before .before .before .before .before .before .before .before .before .get-next) .ensures) ∙ (c .before .before .before .before .before .before .before .before .before .t) .given .1)))) (y .0 .room)
+    let y = (rw ((c .before .e5) .given .1) at ((c .before .before .before .before .before .suffixed) .ensures)) .0 in
+    lower (((c .before .before .before .before .before .before .before .before .before .before .before .before .before .before .args) .c) .place + 1) (alter (by-others ((c .before .before .before .before .before .before .before .before .before .before .before .before .before .before .args) .stream .now) (ranks ((c .before .before .before .before .before .before .before .before .before .before .before .before .before .before .args) .ranking)) 0 (readers ((c .before .before .before .before .before .before .before .before .before .before .before .before .before .before .args) .stream .now) (ranks ((c .before .before .before .before .before .before .before .before .before .before .before .before .before .before .args) .ranking)) ((c .before .before .before .before .before .before .before .before .before .before .before .before .before .before .args) .g)) (hold 0 0 none) again ((c .before .before .before .before .before .before .before .before .before .before .before .before .before .before .args) .c) (56, any ⨾ leaf 21) ((55, any ⨾ leaf 20) ∷ (57, any ⨾ leaf 22) ∷ (12, any ⨾ leaf 23) ∷ (19, any ⨾ leaf 24) ∷ (5, any ⨾ leaf 25) ∷ (36, any ⨾ leaf 26) ∷ (53, table′) ∷ (7, any ⨾ funcbody) ∷ []) suffixed′ (sym ((c .before .before .before .before .before .before .before .before .before .before .before .get-next) .ensures) ∙ (c .before .before .before .before .before .before .before .before .before .t) .given .1) ((c .before .before .before .before .before .before .before .match2) .rest .0 .0 .0 .0 .0 .0 .0 .0 .1) ((c .before .before .before .before .before .before .before .match2) .rest .0 .0 .0 .0 .0 .0 .0 .1) ((c .before .before .before .before .before .before .before .match2) .rest .0 .0 .0 .0 .0 .0 .1) ((c .before .before .before .before .before .before .before .match2) .rest .0 .0 .0 .0 .0 .1) ((c .before .before .before .before .before .before .before .match2) .rest .0 .0 .0 .0 .1) ((c .before .before .before .before .before .before .before .match2) .rest .0 .0 .0 .1) ((c .before .before .before .before .before .before .before .match2) .rest .0 .0 .1) ((c .before .before .before .before .before .before .before .match2) .rest .0 .1) ((c .before .before .before .before .before .before .before .match2) .rest .1)) y) (omega (arith, y .later, (get-place ((c .before .before .before .before .before .before .before .before .before .before .before .before .before .before .args) .stream .now) ((c .before .before .before .before .before .before .before .before .before .before .before .before .before .before .args) .c) (sym ((c .before .before .before .before .before .before .before .before .before .before .before .get-next) .ensures) ∙ (c .before .before .before .before .before .before .before .before .before .t) .given .1))))

@@ -20,27 +20,23 @@ use Rattle.stream.proofs.reader.check_ahead.Reads as check-ahead-reads
 use Rattle.stream.proofs.reader.get_next.Reads as get-next-reads
 use Rattle.parser.proofs.+args+arm+arms+assign+block+body+call+cond+def+dos+ended+estat+exps+field+fields+fors+func+generic+head+index+item+keyed+lfunc+list+locs+method+named+numeric+primary+repeats+ret+simple+stat+stats+sub+suffix+suffixed+table+tail+tails+targs+upto+whiles.{}
 use Rattle.parser.proofs.+args+arm+arms+assign+block+body+call+cond+def+dos+ended+estat+exps+field+fields+fors+func+generic+head+index+item+keyed+lfunc+list+locs+method+named+numeric+primary+repeats+ret+simple+stat+stats+sub+suffix+suffixed+table+tail+tails+targs+upto+whiles.Proof.Levels.{cond-below, dos-below, estat-below, fors-below, func-below, lfunc-below, locs-below, repeats-below, stat-at, whiles-below}
-use mathlib.Core.Path.{refl, sym, ap, _∙_}
+use mathlib.Core.Path.{sym, ap, _∙_}
 use mathlib.Core.List.{[], _∷_}
-use Prim.Native.Nat.{ℕ, _+_, _-_}
+use Prim.Native.Nat.{ℕ, _-_}
 use native.Mathlib.Omega.{arith}
 use Rattle.operators.specs.Ranks.{ranks}
+use Rattle.stream.specs.Words.{line as lineAt}
 use Rattle.tree.specs.Forest.{none}
 use Rattle.grammar.specs.Reading.{hold, last}
 use Rattle.grammar.specs.Levels.{readers}
-use Rattle.grammar.specs.Term.{next, second}
+use Rattle.grammar.specs.Term.{second}
 use Rattle.grammar.specs.Term.{on}
-use Rattle.grammar.specs.Member.{member}
 use Rattle.parser.specs.Contract.{again}
-use Rattle.parser.proofs.Steps.{taken, got, next-fail, next-in, next-out}
-use Rattle.parser.proofs.Kit.{kept, stop}
-use Rattle.parser.proofs.Tokens.{seconded-in, seconded-out, check-place, get-place}
-use Rattle.parser.proofs.Looks.{got-again, stats-deep, stats-down}
+use Rattle.parser.proofs.Steps.{second-in, second-out, check-place, get-place, got-line}
+use Rattle.parser.proofs.Kit.{kept, ready-seen, moved, stop}
+use Rattle.parser.proofs.Looks.{by-none, by-kind, by-others}
+use Rattle.parser.proofs.Around.{stats-deep, stats-down}
 use Rattle.grammar.specs.Productions.{ifstat, whilestat, dostat, forstat, repeatstat, functionstat, localfunction, localstat, exprstat, statement as statement′}
-use Rattle.parser.proofs.Moved.{moved-meets}
-use Rattle.parser.proofs.Shapes.{not-among}
-use Rattle.stream.specs.declared.reader.Token.{Token}
-use Rattle.stream.specs.Words.{line as lineAt}
 use Rattle.grammar.specs.Productions.{label as label′, breakstat, gotostat}
 
 pub stat-deep-requires : (t : ℕ) → stat-lts.Need-deep-requires (
@@ -279,11 +275,7 @@ pub stat-cond-requires : (t : ℕ) → stat-lts.Need-cond-requires (
   estat-below t,
   estat.Post,
 ) (stat-at t) stat.Post
-stat-cond-requires t c κs =
-    let x = sym ((c .before .before .before .before .before .get-next) .ensures) ∙ (c .before .before .before .t) .given .1 in
-    let p = get-place ((c .before .before .before .before .before .before .before .before .before .args) .stream .now) ((c .before .before .before .before .before .before .before .before .before .args) .c) x in
-    let x2 = got-again ((c .before .before .before .before .before .before .before .before .before .args) .stream .now) ((c .before .before .before .before .before .before .before .before .before .args) .c) x in
-    (omega (arith, (c .before .before .before .before .before .before .before .before .before .pre) .0, (c .before .before .before .before .before .before .if1) .left), (record { formed = ((c .before .before .before .before .before .before .before .before .before .pre) .1) .formed; at = omega (arith, ((c .before .before .before .before .before .before .before .before .before .pre) .1) .at, p); room = omega (arith, ((c .before .before .before .before .before .before .before .before .before .pre) .1) .room, p) }, (ap (λ (z : Token). z .line) (got ((c .before .before .before .before .before .before .before .before .before .args) .stream .now) ((c .before .before .before .before .before .before .before .before .before .args) .c) x .token) ∙ ap (lineAt ((c .before .before .before .before .before .before .before .before .before .args) .stream .now)) (sym p))))
+stat-cond-requires t c κs = (omega (arith, (c .before .before .before .before .before .before .before .before .before .pre) .0, (c .before .before .before .before .before .before .if1) .left), (ready-seen ((c .before .before .before .before .before .before .before .before .before .pre) .1) (get-place ((c .before .before .before .before .before .before .before .before .before .args) .stream .now) ((c .before .before .before .before .before .before .before .before .before .args) .c) (sym ((c .before .before .before .before .before .get-next) .ensures) ∙ (c .before .before .before .t) .given .1)), got-line ((c .before .before .before .before .before .before .before .before .before .args) .stream .now) ((c .before .before .before .before .before .before .before .before .before .args) .c) (sym ((c .before .before .before .before .before .get-next) .ensures) ∙ (c .before .before .before .t) .given .1)))
 
 pub stat-sub-whiles : (t : ℕ) → stat-lts.Need-sub-whiles (
   deep-reads.Asked,
@@ -351,11 +343,7 @@ pub stat-whiles-requires : (t : ℕ) → stat-lts.Need-whiles-requires (
   estat-below t,
   estat.Post,
 ) (stat-at t) stat.Post
-stat-whiles-requires t c κs =
-    let x = sym ((c .before .before .before .before .before .get-next) .ensures) ∙ (c .before .before .before .t) .given .1 in
-    let p = get-place ((c .before .before .before .before .before .before .before .before .before .args) .stream .now) ((c .before .before .before .before .before .before .before .before .before .args) .c) x in
-    let x2 = got-again ((c .before .before .before .before .before .before .before .before .before .args) .stream .now) ((c .before .before .before .before .before .before .before .before .before .args) .c) x in
-    (omega (arith, (c .before .before .before .before .before .before .before .before .before .pre) .0, (c .before .before .before .before .before .before .if1) .left), (record { formed = ((c .before .before .before .before .before .before .before .before .before .pre) .1) .formed; at = omega (arith, ((c .before .before .before .before .before .before .before .before .before .pre) .1) .at, p); room = omega (arith, ((c .before .before .before .before .before .before .before .before .before .pre) .1) .room, p) }, (ap (λ (z : Token). z .line) (got ((c .before .before .before .before .before .before .before .before .before .args) .stream .now) ((c .before .before .before .before .before .before .before .before .before .args) .c) x .token) ∙ ap (lineAt ((c .before .before .before .before .before .before .before .before .before .args) .stream .now)) (sym p))))
+stat-whiles-requires t c κs = (omega (arith, (c .before .before .before .before .before .before .before .before .before .pre) .0, (c .before .before .before .before .before .before .if1) .left), (ready-seen ((c .before .before .before .before .before .before .before .before .before .pre) .1) (get-place ((c .before .before .before .before .before .before .before .before .before .args) .stream .now) ((c .before .before .before .before .before .before .before .before .before .args) .c) (sym ((c .before .before .before .before .before .get-next) .ensures) ∙ (c .before .before .before .t) .given .1)), got-line ((c .before .before .before .before .before .before .before .before .before .args) .stream .now) ((c .before .before .before .before .before .before .before .before .before .args) .c) (sym ((c .before .before .before .before .before .get-next) .ensures) ∙ (c .before .before .before .t) .given .1)))
 
 pub stat-sub-dos : (t : ℕ) → stat-lts.Need-sub-dos (
   deep-reads.Asked,
@@ -423,11 +411,7 @@ pub stat-dos-requires : (t : ℕ) → stat-lts.Need-dos-requires (
   estat-below t,
   estat.Post,
 ) (stat-at t) stat.Post
-stat-dos-requires t c κs =
-    let x = sym ((c .before .before .before .before .before .get-next) .ensures) ∙ (c .before .before .before .t) .given .1 in
-    let p = get-place ((c .before .before .before .before .before .before .before .before .before .args) .stream .now) ((c .before .before .before .before .before .before .before .before .before .args) .c) x in
-    let x2 = got-again ((c .before .before .before .before .before .before .before .before .before .args) .stream .now) ((c .before .before .before .before .before .before .before .before .before .args) .c) x in
-    (omega (arith, (c .before .before .before .before .before .before .before .before .before .pre) .0, (c .before .before .before .before .before .before .if1) .left), (record { formed = ((c .before .before .before .before .before .before .before .before .before .pre) .1) .formed; at = omega (arith, ((c .before .before .before .before .before .before .before .before .before .pre) .1) .at, p); room = omega (arith, ((c .before .before .before .before .before .before .before .before .before .pre) .1) .room, p) }, (ap (λ (z : Token). z .line) (got ((c .before .before .before .before .before .before .before .before .before .args) .stream .now) ((c .before .before .before .before .before .before .before .before .before .args) .c) x .token) ∙ ap (lineAt ((c .before .before .before .before .before .before .before .before .before .args) .stream .now)) (sym p))))
+stat-dos-requires t c κs = (omega (arith, (c .before .before .before .before .before .before .before .before .before .pre) .0, (c .before .before .before .before .before .before .if1) .left), (ready-seen ((c .before .before .before .before .before .before .before .before .before .pre) .1) (get-place ((c .before .before .before .before .before .before .before .before .before .args) .stream .now) ((c .before .before .before .before .before .before .before .before .before .args) .c) (sym ((c .before .before .before .before .before .get-next) .ensures) ∙ (c .before .before .before .t) .given .1)), got-line ((c .before .before .before .before .before .before .before .before .before .args) .stream .now) ((c .before .before .before .before .before .before .before .before .before .args) .c) (sym ((c .before .before .before .before .before .get-next) .ensures) ∙ (c .before .before .before .t) .given .1)))
 
 pub stat-sub-fors : (t : ℕ) → stat-lts.Need-sub-fors (
   deep-reads.Asked,
@@ -495,11 +479,7 @@ pub stat-fors-requires : (t : ℕ) → stat-lts.Need-fors-requires (
   estat-below t,
   estat.Post,
 ) (stat-at t) stat.Post
-stat-fors-requires t c κs =
-    let x = sym ((c .before .before .before .before .before .get-next) .ensures) ∙ (c .before .before .before .t) .given .1 in
-    let p = get-place ((c .before .before .before .before .before .before .before .before .before .args) .stream .now) ((c .before .before .before .before .before .before .before .before .before .args) .c) x in
-    let x2 = got-again ((c .before .before .before .before .before .before .before .before .before .args) .stream .now) ((c .before .before .before .before .before .before .before .before .before .args) .c) x in
-    (omega (arith, (c .before .before .before .before .before .before .before .before .before .pre) .0, (c .before .before .before .before .before .before .if1) .left), (record { formed = ((c .before .before .before .before .before .before .before .before .before .pre) .1) .formed; at = omega (arith, ((c .before .before .before .before .before .before .before .before .before .pre) .1) .at, p); room = omega (arith, ((c .before .before .before .before .before .before .before .before .before .pre) .1) .room, p) }, (ap (λ (z : Token). z .line) (got ((c .before .before .before .before .before .before .before .before .before .args) .stream .now) ((c .before .before .before .before .before .before .before .before .before .args) .c) x .token) ∙ ap (lineAt ((c .before .before .before .before .before .before .before .before .before .args) .stream .now)) (sym p))))
+stat-fors-requires t c κs = (omega (arith, (c .before .before .before .before .before .before .before .before .before .pre) .0, (c .before .before .before .before .before .before .if1) .left), (ready-seen ((c .before .before .before .before .before .before .before .before .before .pre) .1) (get-place ((c .before .before .before .before .before .before .before .before .before .args) .stream .now) ((c .before .before .before .before .before .before .before .before .before .args) .c) (sym ((c .before .before .before .before .before .get-next) .ensures) ∙ (c .before .before .before .t) .given .1)), got-line ((c .before .before .before .before .before .before .before .before .before .args) .stream .now) ((c .before .before .before .before .before .before .before .before .before .args) .c) (sym ((c .before .before .before .before .before .get-next) .ensures) ∙ (c .before .before .before .t) .given .1)))
 
 pub stat-sub-repeats : (t : ℕ) → stat-lts.Need-sub-repeats (
   deep-reads.Asked,
@@ -567,11 +547,7 @@ pub stat-repeats-requires : (t : ℕ) → stat-lts.Need-repeats-requires (
   estat-below t,
   estat.Post,
 ) (stat-at t) stat.Post
-stat-repeats-requires t c κs =
-    let x = sym ((c .before .before .before .before .before .get-next) .ensures) ∙ (c .before .before .before .t) .given .1 in
-    let p = get-place ((c .before .before .before .before .before .before .before .before .before .args) .stream .now) ((c .before .before .before .before .before .before .before .before .before .args) .c) x in
-    let x2 = got-again ((c .before .before .before .before .before .before .before .before .before .args) .stream .now) ((c .before .before .before .before .before .before .before .before .before .args) .c) x in
-    (omega (arith, (c .before .before .before .before .before .before .before .before .before .pre) .0, (c .before .before .before .before .before .before .if1) .left), (record { formed = ((c .before .before .before .before .before .before .before .before .before .pre) .1) .formed; at = omega (arith, ((c .before .before .before .before .before .before .before .before .before .pre) .1) .at, p); room = omega (arith, ((c .before .before .before .before .before .before .before .before .before .pre) .1) .room, p) }, (ap (λ (z : Token). z .line) (got ((c .before .before .before .before .before .before .before .before .before .args) .stream .now) ((c .before .before .before .before .before .before .before .before .before .args) .c) x .token) ∙ ap (lineAt ((c .before .before .before .before .before .before .before .before .before .args) .stream .now)) (sym p))))
+stat-repeats-requires t c κs = (omega (arith, (c .before .before .before .before .before .before .before .before .before .pre) .0, (c .before .before .before .before .before .before .if1) .left), (ready-seen ((c .before .before .before .before .before .before .before .before .before .pre) .1) (get-place ((c .before .before .before .before .before .before .before .before .before .args) .stream .now) ((c .before .before .before .before .before .before .before .before .before .args) .c) (sym ((c .before .before .before .before .before .get-next) .ensures) ∙ (c .before .before .before .t) .given .1)), got-line ((c .before .before .before .before .before .before .before .before .before .args) .stream .now) ((c .before .before .before .before .before .before .before .before .before .args) .c) (sym ((c .before .before .before .before .before .get-next) .ensures) ∙ (c .before .before .before .t) .given .1)))
 
 pub stat-sub-func : (t : ℕ) → stat-lts.Need-sub-func (
   deep-reads.Asked,
@@ -639,11 +615,7 @@ pub stat-func-requires : (t : ℕ) → stat-lts.Need-func-requires (
   estat-below t,
   estat.Post,
 ) (stat-at t) stat.Post
-stat-func-requires t c κs =
-    let x = sym ((c .before .before .before .before .before .get-next) .ensures) ∙ (c .before .before .before .t) .given .1 in
-    let p = get-place ((c .before .before .before .before .before .before .before .before .before .args) .stream .now) ((c .before .before .before .before .before .before .before .before .before .args) .c) x in
-    let x2 = got-again ((c .before .before .before .before .before .before .before .before .before .args) .stream .now) ((c .before .before .before .before .before .before .before .before .before .args) .c) x in
-    (omega (arith, (c .before .before .before .before .before .before .before .before .before .pre) .0, (c .before .before .before .before .before .before .if1) .left), (record { formed = ((c .before .before .before .before .before .before .before .before .before .pre) .1) .formed; at = omega (arith, ((c .before .before .before .before .before .before .before .before .before .pre) .1) .at, p); room = omega (arith, ((c .before .before .before .before .before .before .before .before .before .pre) .1) .room, p) }, (ap (λ (z : Token). z .line) (got ((c .before .before .before .before .before .before .before .before .before .args) .stream .now) ((c .before .before .before .before .before .before .before .before .before .args) .c) x .token) ∙ ap (lineAt ((c .before .before .before .before .before .before .before .before .before .args) .stream .now)) (sym p))))
+stat-func-requires t c κs = (omega (arith, (c .before .before .before .before .before .before .before .before .before .pre) .0, (c .before .before .before .before .before .before .if1) .left), (ready-seen ((c .before .before .before .before .before .before .before .before .before .pre) .1) (get-place ((c .before .before .before .before .before .before .before .before .before .args) .stream .now) ((c .before .before .before .before .before .before .before .before .before .args) .c) (sym ((c .before .before .before .before .before .get-next) .ensures) ∙ (c .before .before .before .t) .given .1)), got-line ((c .before .before .before .before .before .before .before .before .before .args) .stream .now) ((c .before .before .before .before .before .before .before .before .before .args) .c) (sym ((c .before .before .before .before .before .get-next) .ensures) ∙ (c .before .before .before .t) .given .1)))
 
 pub stat-check-ahead-requires : (t : ℕ) → stat-lts.Need-check-ahead-requires (
   deep-reads.Asked,
@@ -745,12 +717,7 @@ pub stat-lfunc-requires : (t : ℕ) → stat-lts.Need-lfunc-requires (
   estat-below t,
   estat.Post,
 ) (stat-at t) stat.Post
-stat-lfunc-requires t c κs =
-    let x = sym ((c .before .before .before .before .before .before .before .before .get-next) .ensures) ∙ (c .before .before .before .before .before .before .t) .given .1 in
-    let p = get-place ((c .before .before .before .before .before .before .before .before .before .before .before .before .args) .stream .now) ((c .before .before .before .before .before .before .before .before .before .before .before .before .args) .c) x in
-    let x2 = got-again ((c .before .before .before .before .before .before .before .before .before .before .before .before .args) .stream .now) ((c .before .before .before .before .before .before .before .before .before .before .before .before .args) .c) x in
-    let pc = check-place ((c .before .before .before .before .before .before .before .before .before .before .before .before .args) .stream .now) ((c .before .before .before .before .before .before .t) .given .0 .1 .0) 1 7 ((c .before .before .before .check-ahead) .ensures) in
-    (omega (arith, (c .before .before .before .before .before .before .before .before .before .before .before .before .pre) .0, (c .before .before .before .before .before .before .before .before .before .if1) .left), (record { formed = ((c .before .before .before .before .before .before .before .before .before .before .before .before .pre) .1) .formed; at = omega (arith, ((c .before .before .before .before .before .before .before .before .before .before .before .before .pre) .1) .at, p, pc); room = omega (arith, ((c .before .before .before .before .before .before .before .before .before .before .before .before .pre) .1) .room, p, pc) }, (ap (λ (z : Token). z .line) (got ((c .before .before .before .before .before .before .before .before .before .before .before .before .args) .stream .now) ((c .before .before .before .before .before .before .before .before .before .before .before .before .args) .c) x .token) ∙ ap (lineAt ((c .before .before .before .before .before .before .before .before .before .before .before .before .args) .stream .now)) (sym (pc ∙ p)))))
+stat-lfunc-requires t c κs = (omega (arith, (c .before .before .before .before .before .before .before .before .before .before .before .before .pre) .0, (c .before .before .before .before .before .before .before .before .before .if1) .left), (ready-seen ((c .before .before .before .before .before .before .before .before .before .before .before .before .pre) .1) ((check-place ((c .before .before .before .before .before .before .before .before .before .before .before .before .args) .stream .now) ((c .before .before .before .before .before .before .t) .given .0 .1 .0) 1 7 ((c .before .before .before .check-ahead) .ensures)) ∙ (get-place ((c .before .before .before .before .before .before .before .before .before .before .before .before .args) .stream .now) ((c .before .before .before .before .before .before .before .before .before .before .before .before .args) .c) (sym ((c .before .before .before .before .before .before .before .before .get-next) .ensures) ∙ (c .before .before .before .before .before .before .t) .given .1))), got-line ((c .before .before .before .before .before .before .before .before .before .before .before .before .args) .stream .now) ((c .before .before .before .before .before .before .before .before .before .before .before .before .args) .c) (sym ((c .before .before .before .before .before .before .before .before .get-next) .ensures) ∙ (c .before .before .before .before .before .before .t) .given .1) ∙ ap (lineAt ((c .before .before .before .before .before .before .before .before .before .before .before .before .args) .stream .now)) (sym (check-place ((c .before .before .before .before .before .before .before .before .before .before .before .before .args) .stream .now) ((c .before .before .before .before .before .before .t) .given .0 .1 .0) 1 7 ((c .before .before .before .check-ahead) .ensures)))))
 
 pub stat-sub-locs : (t : ℕ) → stat-lts.Need-sub-locs (
   deep-reads.Asked,
@@ -818,12 +785,7 @@ pub stat-locs-requires : (t : ℕ) → stat-lts.Need-locs-requires (
   estat-below t,
   estat.Post,
 ) (stat-at t) stat.Post
-stat-locs-requires t c κs =
-    let x = sym ((c .before .before .before .before .before .before .before .before .get-next) .ensures) ∙ (c .before .before .before .before .before .before .t) .given .1 in
-    let p = get-place ((c .before .before .before .before .before .before .before .before .before .before .before .before .args) .stream .now) ((c .before .before .before .before .before .before .before .before .before .before .before .before .args) .c) x in
-    let x2 = got-again ((c .before .before .before .before .before .before .before .before .before .before .before .before .args) .stream .now) ((c .before .before .before .before .before .before .before .before .before .before .before .before .args) .c) x in
-    let pc = check-place ((c .before .before .before .before .before .before .before .before .before .before .before .before .args) .stream .now) ((c .before .before .before .before .before .before .t) .given .0 .1 .0) 1 7 ((c .before .before .before .check-ahead) .ensures) in
-    (omega (arith, (c .before .before .before .before .before .before .before .before .before .before .before .before .pre) .0, (c .before .before .before .before .before .before .before .before .before .if1) .left), (record { formed = ((c .before .before .before .before .before .before .before .before .before .before .before .before .pre) .1) .formed; at = omega (arith, ((c .before .before .before .before .before .before .before .before .before .before .before .before .pre) .1) .at, p, pc); room = omega (arith, ((c .before .before .before .before .before .before .before .before .before .before .before .before .pre) .1) .room, p, pc) }, (ap (λ (z : Token). z .line) (got ((c .before .before .before .before .before .before .before .before .before .before .before .before .args) .stream .now) ((c .before .before .before .before .before .before .before .before .before .before .before .before .args) .c) x .token) ∙ ap (lineAt ((c .before .before .before .before .before .before .before .before .before .before .before .before .args) .stream .now)) (sym (pc ∙ p)))))
+stat-locs-requires t c κs = (omega (arith, (c .before .before .before .before .before .before .before .before .before .before .before .before .pre) .0, (c .before .before .before .before .before .before .before .before .before .if1) .left), (ready-seen ((c .before .before .before .before .before .before .before .before .before .before .before .before .pre) .1) ((check-place ((c .before .before .before .before .before .before .before .before .before .before .before .before .args) .stream .now) ((c .before .before .before .before .before .before .t) .given .0 .1 .0) 1 7 ((c .before .before .before .check-ahead) .ensures)) ∙ (get-place ((c .before .before .before .before .before .before .before .before .before .before .before .before .args) .stream .now) ((c .before .before .before .before .before .before .before .before .before .before .before .before .args) .c) (sym ((c .before .before .before .before .before .before .before .before .get-next) .ensures) ∙ (c .before .before .before .before .before .before .t) .given .1))), got-line ((c .before .before .before .before .before .before .before .before .before .before .before .before .args) .stream .now) ((c .before .before .before .before .before .before .before .before .before .before .before .before .args) .c) (sym ((c .before .before .before .before .before .before .before .before .get-next) .ensures) ∙ (c .before .before .before .before .before .before .t) .given .1) ∙ ap (lineAt ((c .before .before .before .before .before .before .before .before .before .before .before .before .args) .stream .now)) (sym (check-place ((c .before .before .before .before .before .before .before .before .before .before .before .before .args) .stream .now) ((c .before .before .before .before .before .before .t) .given .0 .1 .0) 1 7 ((c .before .before .before .check-ahead) .ensures)))))
 
 pub stat-label-requires : (t : ℕ) → stat-lts.Need-label-requires (
   deep-reads.Asked,
@@ -857,11 +819,7 @@ pub stat-label-requires : (t : ℕ) → stat-lts.Need-label-requires (
   estat-below t,
   estat.Post,
 ) (stat-at t) stat.Post
-stat-label-requires t c κs =
-    let x = sym ((c .before .before .before .before .before .get-next) .ensures) ∙ (c .before .before .before .t) .given .1 in
-    let p = get-place ((c .before .before .before .before .before .before .before .before .before .args) .stream .now) ((c .before .before .before .before .before .before .before .before .before .args) .c) x in
-    let x2 = got-again ((c .before .before .before .before .before .before .before .before .before .args) .stream .now) ((c .before .before .before .before .before .before .before .before .before .args) .c) x in
-    (record { formed = ((c .before .before .before .before .before .before .before .before .before .pre) .1) .formed; at = omega (arith, ((c .before .before .before .before .before .before .before .before .before .pre) .1) .at, p); room = omega (arith, ((c .before .before .before .before .before .before .before .before .before .pre) .1) .room, p) }, (ap (λ (z : Token). z .line) (got ((c .before .before .before .before .before .before .before .before .before .args) .stream .now) ((c .before .before .before .before .before .before .before .before .before .args) .c) x .token) ∙ ap (lineAt ((c .before .before .before .before .before .before .before .before .before .args) .stream .now)) (sym p)))
+stat-label-requires t c κs = (ready-seen ((c .before .before .before .before .before .before .before .before .before .pre) .1) (get-place ((c .before .before .before .before .before .before .before .before .before .args) .stream .now) ((c .before .before .before .before .before .before .before .before .before .args) .c) (sym ((c .before .before .before .before .before .get-next) .ensures) ∙ (c .before .before .before .t) .given .1)), got-line ((c .before .before .before .before .before .before .before .before .before .args) .stream .now) ((c .before .before .before .before .before .before .before .before .before .args) .c) (sym ((c .before .before .before .before .before .get-next) .ensures) ∙ (c .before .before .before .t) .given .1))
 
 pub stat-stop-requires : (t : ℕ) → stat-lts.Need-stop-requires (
   deep-reads.Asked,
@@ -895,11 +853,7 @@ pub stat-stop-requires : (t : ℕ) → stat-lts.Need-stop-requires (
   estat-below t,
   estat.Post,
 ) (stat-at t) stat.Post
-stat-stop-requires t c κs =
-    let x = sym ((c .before .before .before .before .before .get-next) .ensures) ∙ (c .before .before .before .t) .given .1 in
-    let p = get-place ((c .before .before .before .before .before .before .before .before .before .args) .stream .now) ((c .before .before .before .before .before .before .before .before .before .args) .c) x in
-    let x2 = got-again ((c .before .before .before .before .before .before .before .before .before .args) .stream .now) ((c .before .before .before .before .before .before .before .before .before .args) .c) x in
-    (record { formed = ((c .before .before .before .before .before .before .before .before .before .pre) .1) .formed; at = omega (arith, ((c .before .before .before .before .before .before .before .before .before .pre) .1) .at, p); room = omega (arith, ((c .before .before .before .before .before .before .before .before .before .pre) .1) .room, p) }, (ap (λ (z : Token). z .line) (got ((c .before .before .before .before .before .before .before .before .before .args) .stream .now) ((c .before .before .before .before .before .before .before .before .before .args) .c) x .token) ∙ ap (lineAt ((c .before .before .before .before .before .before .before .before .before .args) .stream .now)) (sym p)))
+stat-stop-requires t c κs = (ready-seen ((c .before .before .before .before .before .before .before .before .before .pre) .1) (get-place ((c .before .before .before .before .before .before .before .before .before .args) .stream .now) ((c .before .before .before .before .before .before .before .before .before .args) .c) (sym ((c .before .before .before .before .before .get-next) .ensures) ∙ (c .before .before .before .t) .given .1)), got-line ((c .before .before .before .before .before .before .before .before .before .args) .stream .now) ((c .before .before .before .before .before .before .before .before .before .args) .c) (sym ((c .before .before .before .before .before .get-next) .ensures) ∙ (c .before .before .before .t) .given .1))
 
 pub stat-goto-requires : (t : ℕ) → stat-lts.Need-goto-requires (
   deep-reads.Asked,
@@ -933,11 +887,7 @@ pub stat-goto-requires : (t : ℕ) → stat-lts.Need-goto-requires (
   estat-below t,
   estat.Post,
 ) (stat-at t) stat.Post
-stat-goto-requires t c κs =
-    let x = sym ((c .before .before .before .before .before .get-next) .ensures) ∙ (c .before .before .before .t) .given .1 in
-    let p = get-place ((c .before .before .before .before .before .before .before .before .before .args) .stream .now) ((c .before .before .before .before .before .before .before .before .before .args) .c) x in
-    let x2 = got-again ((c .before .before .before .before .before .before .before .before .before .args) .stream .now) ((c .before .before .before .before .before .before .before .before .before .args) .c) x in
-    (record { formed = ((c .before .before .before .before .before .before .before .before .before .pre) .1) .formed; at = omega (arith, ((c .before .before .before .before .before .before .before .before .before .pre) .1) .at, p); room = omega (arith, ((c .before .before .before .before .before .before .before .before .before .pre) .1) .room, p) }, (ap (λ (z : Token). z .line) (got ((c .before .before .before .before .before .before .before .before .before .args) .stream .now) ((c .before .before .before .before .before .before .before .before .before .args) .c) x .token) ∙ ap (lineAt ((c .before .before .before .before .before .before .before .before .before .args) .stream .now)) (sym p)))
+stat-goto-requires t c κs = (ready-seen ((c .before .before .before .before .before .before .before .before .before .pre) .1) (get-place ((c .before .before .before .before .before .before .before .before .before .args) .stream .now) ((c .before .before .before .before .before .before .before .before .before .args) .c) (sym ((c .before .before .before .before .before .get-next) .ensures) ∙ (c .before .before .before .t) .given .1)), got-line ((c .before .before .before .before .before .before .before .before .before .args) .stream .now) ((c .before .before .before .before .before .before .before .before .before .args) .c) (sym ((c .before .before .before .before .before .get-next) .ensures) ∙ (c .before .before .before .t) .given .1))
 
 pub stat-sub-estat : (t : ℕ) → stat-lts.Need-sub-estat (
   deep-reads.Asked,
@@ -1005,11 +955,7 @@ pub stat-estat-requires : (t : ℕ) → stat-lts.Need-estat-requires (
   estat-below t,
   estat.Post,
 ) (stat-at t) stat.Post
-stat-estat-requires t c κs =
-    let x = sym ((c .before .before .before .before .before .get-next) .ensures) ∙ (c .before .before .before .t) .given .1 in
-    let p = get-place ((c .before .before .before .before .before .before .before .before .before .args) .stream .now) ((c .before .before .before .before .before .before .before .before .before .args) .c) x in
-    let x2 = got-again ((c .before .before .before .before .before .before .before .before .before .args) .stream .now) ((c .before .before .before .before .before .before .before .before .before .args) .c) x in
-    (omega (arith, (c .before .before .before .before .before .before .before .before .before .pre) .0, (c .before .before .before .before .before .before .if1) .left), (record { formed = ((c .before .before .before .before .before .before .before .before .before .pre) .1) .formed; at = omega (arith, ((c .before .before .before .before .before .before .before .before .before .pre) .1) .at, p); room = omega (arith, ((c .before .before .before .before .before .before .before .before .before .pre) .1) .room, p) }, (ap (λ (z : Token). z .line) (got ((c .before .before .before .before .before .before .before .before .before .args) .stream .now) ((c .before .before .before .before .before .before .before .before .before .args) .c) x .token) ∙ ap (lineAt ((c .before .before .before .before .before .before .before .before .before .args) .stream .now)) (sym p))))
+stat-estat-requires t c κs = (omega (arith, (c .before .before .before .before .before .before .before .before .before .pre) .0, (c .before .before .before .before .before .before .if1) .left), (ready-seen ((c .before .before .before .before .before .before .before .before .before .pre) .1) (get-place ((c .before .before .before .before .before .before .before .before .before .args) .stream .now) ((c .before .before .before .before .before .before .before .before .before .args) .c) (sym ((c .before .before .before .before .before .get-next) .ensures) ∙ (c .before .before .before .t) .given .1)), got-line ((c .before .before .before .before .before .before .before .before .before .args) .stream .now) ((c .before .before .before .before .before .before .before .before .before .args) .c) (sym ((c .before .before .before .before .before .get-next) .ensures) ∙ (c .before .before .before .t) .given .1)))
 
 pub stat-returns-2 : (t : ℕ) → stat-lts.Need-returns-2 (
   deep-reads.Asked,
@@ -1044,7 +990,7 @@ pub stat-returns-2 : (t : ℕ) → stat-lts.Need-returns-2 (
   estat.Post,
 ) (stat-at t) stat.Post
 unfolding statement′
-stat-returns-2 t c = stats-down ((c .before .before .before .before .before .before .before .args) .stream .now) ((c .before .before .before .before .before .before .before .args) .ranking) ((c .before .before .before .before .before .before .before .args) .g) ((c .before .before .before .before .before .before .before .args) .c) ((c .before .before .before .before .if1) .left) ∙ next-fail ((c .before .before .before .before .before .before .before .args) .stream .now) (ranks ((c .before .before .before .before .before .before .before .args) .ranking)) 0 (readers ((c .before .before .before .before .before .before .before .args) .stream .now) (ranks ((c .before .before .before .before .before .before .before .args) .ranking)) (((c .before .before .before .before .before .before .before .args) .g) - 1)) (hold 0 0 none) again ((c .before .before .before .before .before .before .before .args) .c) (9 ∷ []) ifstat (on next (21 ∷ []) whilestat (on next (1 ∷ []) dostat (on next (6 ∷ []) forstat (on next (16 ∷ []) repeatstat (on next (7 ∷ []) functionstat (on next (11 ∷ []) (on second (7 ∷ []) localfunction localstat) (on next (47 ∷ []) label′ (on next (0 ∷ []) breakstat (on next (8 ∷ []) gotostat exprstat))))))))) (sym ((c .before .before .before .get-next) .ensures) ∙ (c .before .e) .given .1)
+stat-returns-2 t c = stats-down ((c .before .before .before .before .before .before .before .args) .stream .now) ((c .before .before .before .before .before .before .before .args) .ranking) ((c .before .before .before .before .before .before .before .args) .g) ((c .before .before .before .before .before .before .before .args) .c) ((c .before .before .before .before .if1) .left) ∙ by-none ((c .before .before .before .before .before .before .before .args) .stream .now) (ranks ((c .before .before .before .before .before .before .before .args) .ranking)) 0 (readers ((c .before .before .before .before .before .before .before .args) .stream .now) (ranks ((c .before .before .before .before .before .before .before .args) .ranking)) (((c .before .before .before .before .before .before .before .args) .g) - 1)) (hold 0 0 none) again ((c .before .before .before .before .before .before .before .args) .c) (9, ifstat) ((21, whilestat) ∷ (1, dostat) ∷ (6, forstat) ∷ (16, repeatstat) ∷ (7, functionstat) ∷ (11, (on second (7 ∷ []) localfunction localstat)) ∷ (47, label′) ∷ (0, breakstat) ∷ (8, gotostat) ∷ []) exprstat (sym ((c .before .before .before .get-next) .ensures) ∙ (c .before .e) .given .1)
 
 pub stat-same-length : (t : ℕ) → stat-lts.Need-same-length (
   deep-reads.Asked,
@@ -1113,11 +1059,7 @@ pub stat-returns-3 : (t : ℕ) → stat-lts.Need-returns-3 (
   estat.Post,
 ) (stat-at t) stat.Post
 unfolding statement′
-stat-returns-3 t c =
-    let x = sym ((c .before .before .before .before .before .before .before .before .get-next) .ensures) ∙ (c .before .before .before .before .before .before .t) .given .1 in
-    let p = get-place ((c .before .before .before .before .before .before .before .before .before .before .before .before .args) .stream .now) ((c .before .before .before .before .before .before .before .before .before .before .before .before .args) .c) x in
-    let x2 = got-again ((c .before .before .before .before .before .before .before .before .before .before .before .before .args) .stream .now) ((c .before .before .before .before .before .before .before .before .before .before .before .before .args) .c) x in
-    moved-meets ((c .before .before .before .before .before .before .before .before .before .before .before .before .args) .stream .now) (((c .before .before .before .before .before .before .t) .given .0 .1 .0) .place + 1) (((c .before .before .before .before .before .before .before .before .before .before .before .before .args) .c) .place + 1) ((c .before .before .before .before .before .before .before .before .before .before .before .before .args) .used) 0 ((c .before .before .before .before .before .before .before .before .before .before .before .before .args) .nodes .now) ((c .before .before .cond) .last .1 .0) ((c .before .before .cond) .result) (stats-down ((c .before .before .before .before .before .before .before .before .before .before .before .before .args) .stream .now) ((c .before .before .before .before .before .before .before .before .before .before .before .before .args) .ranking) ((c .before .before .before .before .before .before .before .before .before .before .before .before .args) .g) ((c .before .before .before .before .before .before .before .before .before .before .before .before .args) .c) ((c .before .before .before .before .before .before .before .before .before .if1) .left) ∙ next-in ((c .before .before .before .before .before .before .before .before .before .before .before .before .args) .stream .now) (ranks ((c .before .before .before .before .before .before .before .before .before .before .before .before .args) .ranking)) 0 (readers ((c .before .before .before .before .before .before .before .before .before .before .before .before .args) .stream .now) (ranks ((c .before .before .before .before .before .before .before .before .before .before .before .before .args) .ranking)) (((c .before .before .before .before .before .before .before .before .before .before .before .before .args) .g) - 1)) (hold 0 0 none) again ((c .before .before .before .before .before .before .before .before .before .before .before .before .args) .c) (9 ∷ []) ifstat (on next (21 ∷ []) whilestat (on next (1 ∷ []) dostat (on next (6 ∷ []) forstat (on next (16 ∷ []) repeatstat (on next (7 ∷ []) functionstat (on next (11 ∷ []) (on second (7 ∷ []) localfunction localstat) (on next (47 ∷ []) label′ (on next (0 ∷ []) breakstat (on next (8 ∷ []) gotostat exprstat))))))))) x (ap (λ (z : ℕ). member z (9 ∷ [])) ((c .before .before .before .before .match2) .keys1))) (omega (arith, p)) ((c .before .before .cond) .ensures)
+stat-returns-3 t c = moved ((c .before .before .before .before .before .before .before .before .before .before .before .before .args) .stream .now) ((c .before .before .before .before .before .before .before .before .before .before .before .before .args) .used) 0 ((c .before .before .before .before .before .before .before .before .before .before .before .before .args) .nodes .now) ((c .before .before .cond) .last .1 .0) ((c .before .before .cond) .result) (stats-down ((c .before .before .before .before .before .before .before .before .before .before .before .before .args) .stream .now) ((c .before .before .before .before .before .before .before .before .before .before .before .before .args) .ranking) ((c .before .before .before .before .before .before .before .before .before .before .before .before .args) .g) ((c .before .before .before .before .before .before .before .before .before .before .before .before .args) .c) ((c .before .before .before .before .before .before .before .before .before .if1) .left) ∙ by-kind ((c .before .before .before .before .before .before .before .before .before .before .before .before .args) .stream .now) (ranks ((c .before .before .before .before .before .before .before .before .before .before .before .before .args) .ranking)) 0 (readers ((c .before .before .before .before .before .before .before .before .before .before .before .before .args) .stream .now) (ranks ((c .before .before .before .before .before .before .before .before .before .before .before .before .args) .ranking)) (((c .before .before .before .before .before .before .before .before .before .before .before .before .args) .g) - 1)) (hold 0 0 none) again ((c .before .before .before .before .before .before .before .before .before .before .before .before .args) .c) (9, ifstat) ((21, whilestat) ∷ (1, dostat) ∷ (6, forstat) ∷ (16, repeatstat) ∷ (7, functionstat) ∷ (11, (on second (7 ∷ []) localfunction localstat)) ∷ (47, label′) ∷ (0, breakstat) ∷ (8, gotostat) ∷ []) exprstat (sym ((c .before .before .before .before .before .before .before .before .get-next) .ensures) ∙ (c .before .before .before .before .before .before .t) .given .1) ((c .before .before .before .before .match2) .keys1)) (omega (arith, (get-place ((c .before .before .before .before .before .before .before .before .before .before .before .before .args) .stream .now) ((c .before .before .before .before .before .before .before .before .before .before .before .before .args) .c) (sym ((c .before .before .before .before .before .before .before .before .get-next) .ensures) ∙ (c .before .before .before .before .before .before .t) .given .1)))) ((c .before .before .cond) .ensures)
 
 pub stat-same-length-2 : (t : ℕ) → stat-lts.Need-same-length-2 (
   deep-reads.Asked,
@@ -1186,11 +1128,7 @@ pub stat-returns-4 : (t : ℕ) → stat-lts.Need-returns-4 (
   estat.Post,
 ) (stat-at t) stat.Post
 unfolding statement′
-stat-returns-4 t c =
-    let x = sym ((c .before .before .before .before .before .before .before .before .get-next) .ensures) ∙ (c .before .before .before .before .before .before .t) .given .1 in
-    let p = get-place ((c .before .before .before .before .before .before .before .before .before .before .before .before .args) .stream .now) ((c .before .before .before .before .before .before .before .before .before .before .before .before .args) .c) x in
-    let x2 = got-again ((c .before .before .before .before .before .before .before .before .before .before .before .before .args) .stream .now) ((c .before .before .before .before .before .before .before .before .before .before .before .before .args) .c) x in
-    moved-meets ((c .before .before .before .before .before .before .before .before .before .before .before .before .args) .stream .now) (((c .before .before .before .before .before .before .t) .given .0 .1 .0) .place + 1) (((c .before .before .before .before .before .before .before .before .before .before .before .before .args) .c) .place + 1) ((c .before .before .before .before .before .before .before .before .before .before .before .before .args) .used) 0 ((c .before .before .before .before .before .before .before .before .before .before .before .before .args) .nodes .now) ((c .before .before .whiles) .last .1 .0) ((c .before .before .whiles) .result) (stats-down ((c .before .before .before .before .before .before .before .before .before .before .before .before .args) .stream .now) ((c .before .before .before .before .before .before .before .before .before .before .before .before .args) .ranking) ((c .before .before .before .before .before .before .before .before .before .before .before .before .args) .g) ((c .before .before .before .before .before .before .before .before .before .before .before .before .args) .c) ((c .before .before .before .before .before .before .before .before .before .if1) .left) ∙ next-out ((c .before .before .before .before .before .before .before .before .before .before .before .before .args) .stream .now) (ranks ((c .before .before .before .before .before .before .before .before .before .before .before .before .args) .ranking)) 0 (readers ((c .before .before .before .before .before .before .before .before .before .before .before .before .args) .stream .now) (ranks ((c .before .before .before .before .before .before .before .before .before .before .before .before .args) .ranking)) (((c .before .before .before .before .before .before .before .before .before .before .before .before .args) .g) - 1)) (hold 0 0 none) again ((c .before .before .before .before .before .before .before .before .before .before .before .before .args) .c) (9 ∷ []) ifstat (on next (21 ∷ []) whilestat (on next (1 ∷ []) dostat (on next (6 ∷ []) forstat (on next (16 ∷ []) repeatstat (on next (7 ∷ []) functionstat (on next (11 ∷ []) (on second (7 ∷ []) localfunction localstat) (on next (47 ∷ []) label′ (on next (0 ∷ []) breakstat (on next (8 ∷ []) gotostat exprstat))))))))) x (ap (λ (z : ℕ). member z (9 ∷ [])) ((c .before .before .before .before .match2) .keys2)) ∙ next-in ((c .before .before .before .before .before .before .before .before .before .before .before .before .args) .stream .now) (ranks ((c .before .before .before .before .before .before .before .before .before .before .before .before .args) .ranking)) 0 (readers ((c .before .before .before .before .before .before .before .before .before .before .before .before .args) .stream .now) (ranks ((c .before .before .before .before .before .before .before .before .before .before .before .before .args) .ranking)) (((c .before .before .before .before .before .before .before .before .before .before .before .before .args) .g) - 1)) (hold 0 0 none) again ((c .before .before .before .before .before .before .t) .given .0 .1 .0) (21 ∷ []) whilestat (on next (1 ∷ []) dostat (on next (6 ∷ []) forstat (on next (16 ∷ []) repeatstat (on next (7 ∷ []) functionstat (on next (11 ∷ []) (on second (7 ∷ []) localfunction localstat) (on next (47 ∷ []) label′ (on next (0 ∷ []) breakstat (on next (8 ∷ []) gotostat exprstat)))))))) x2 (ap (λ (z : ℕ). member z (21 ∷ [])) ((c .before .before .before .before .match2) .keys2))) (omega (arith, p)) ((c .before .before .whiles) .ensures)
+stat-returns-4 t c = moved ((c .before .before .before .before .before .before .before .before .before .before .before .before .args) .stream .now) ((c .before .before .before .before .before .before .before .before .before .before .before .before .args) .used) 0 ((c .before .before .before .before .before .before .before .before .before .before .before .before .args) .nodes .now) ((c .before .before .whiles) .last .1 .0) ((c .before .before .whiles) .result) (stats-down ((c .before .before .before .before .before .before .before .before .before .before .before .before .args) .stream .now) ((c .before .before .before .before .before .before .before .before .before .before .before .before .args) .ranking) ((c .before .before .before .before .before .before .before .before .before .before .before .before .args) .g) ((c .before .before .before .before .before .before .before .before .before .before .before .before .args) .c) ((c .before .before .before .before .before .before .before .before .before .if1) .left) ∙ by-kind ((c .before .before .before .before .before .before .before .before .before .before .before .before .args) .stream .now) (ranks ((c .before .before .before .before .before .before .before .before .before .before .before .before .args) .ranking)) 0 (readers ((c .before .before .before .before .before .before .before .before .before .before .before .before .args) .stream .now) (ranks ((c .before .before .before .before .before .before .before .before .before .before .before .before .args) .ranking)) (((c .before .before .before .before .before .before .before .before .before .before .before .before .args) .g) - 1)) (hold 0 0 none) again ((c .before .before .before .before .before .before .before .before .before .before .before .before .args) .c) (9, ifstat) ((21, whilestat) ∷ (1, dostat) ∷ (6, forstat) ∷ (16, repeatstat) ∷ (7, functionstat) ∷ (11, (on second (7 ∷ []) localfunction localstat)) ∷ (47, label′) ∷ (0, breakstat) ∷ (8, gotostat) ∷ []) exprstat (sym ((c .before .before .before .before .before .before .before .before .get-next) .ensures) ∙ (c .before .before .before .before .before .before .t) .given .1) ((c .before .before .before .before .match2) .keys2)) (omega (arith, (get-place ((c .before .before .before .before .before .before .before .before .before .before .before .before .args) .stream .now) ((c .before .before .before .before .before .before .before .before .before .before .before .before .args) .c) (sym ((c .before .before .before .before .before .before .before .before .get-next) .ensures) ∙ (c .before .before .before .before .before .before .t) .given .1)))) ((c .before .before .whiles) .ensures)
 
 pub stat-same-length-3 : (t : ℕ) → stat-lts.Need-same-length-3 (
   deep-reads.Asked,
@@ -1259,11 +1197,7 @@ pub stat-returns-5 : (t : ℕ) → stat-lts.Need-returns-5 (
   estat.Post,
 ) (stat-at t) stat.Post
 unfolding statement′
-stat-returns-5 t c =
-    let x = sym ((c .before .before .before .before .before .before .before .before .get-next) .ensures) ∙ (c .before .before .before .before .before .before .t) .given .1 in
-    let p = get-place ((c .before .before .before .before .before .before .before .before .before .before .before .before .args) .stream .now) ((c .before .before .before .before .before .before .before .before .before .before .before .before .args) .c) x in
-    let x2 = got-again ((c .before .before .before .before .before .before .before .before .before .before .before .before .args) .stream .now) ((c .before .before .before .before .before .before .before .before .before .before .before .before .args) .c) x in
-    moved-meets ((c .before .before .before .before .before .before .before .before .before .before .before .before .args) .stream .now) (((c .before .before .before .before .before .before .t) .given .0 .1 .0) .place + 1) (((c .before .before .before .before .before .before .before .before .before .before .before .before .args) .c) .place + 1) ((c .before .before .before .before .before .before .before .before .before .before .before .before .args) .used) 0 ((c .before .before .before .before .before .before .before .before .before .before .before .before .args) .nodes .now) ((c .before .before .dos) .last .1 .0) ((c .before .before .dos) .result) (stats-down ((c .before .before .before .before .before .before .before .before .before .before .before .before .args) .stream .now) ((c .before .before .before .before .before .before .before .before .before .before .before .before .args) .ranking) ((c .before .before .before .before .before .before .before .before .before .before .before .before .args) .g) ((c .before .before .before .before .before .before .before .before .before .before .before .before .args) .c) ((c .before .before .before .before .before .before .before .before .before .if1) .left) ∙ next-out ((c .before .before .before .before .before .before .before .before .before .before .before .before .args) .stream .now) (ranks ((c .before .before .before .before .before .before .before .before .before .before .before .before .args) .ranking)) 0 (readers ((c .before .before .before .before .before .before .before .before .before .before .before .before .args) .stream .now) (ranks ((c .before .before .before .before .before .before .before .before .before .before .before .before .args) .ranking)) (((c .before .before .before .before .before .before .before .before .before .before .before .before .args) .g) - 1)) (hold 0 0 none) again ((c .before .before .before .before .before .before .before .before .before .before .before .before .args) .c) (9 ∷ []) ifstat (on next (21 ∷ []) whilestat (on next (1 ∷ []) dostat (on next (6 ∷ []) forstat (on next (16 ∷ []) repeatstat (on next (7 ∷ []) functionstat (on next (11 ∷ []) (on second (7 ∷ []) localfunction localstat) (on next (47 ∷ []) label′ (on next (0 ∷ []) breakstat (on next (8 ∷ []) gotostat exprstat))))))))) x (ap (λ (z : ℕ). member z (9 ∷ [])) ((c .before .before .before .before .match2) .keys3)) ∙ next-out ((c .before .before .before .before .before .before .before .before .before .before .before .before .args) .stream .now) (ranks ((c .before .before .before .before .before .before .before .before .before .before .before .before .args) .ranking)) 0 (readers ((c .before .before .before .before .before .before .before .before .before .before .before .before .args) .stream .now) (ranks ((c .before .before .before .before .before .before .before .before .before .before .before .before .args) .ranking)) (((c .before .before .before .before .before .before .before .before .before .before .before .before .args) .g) - 1)) (hold 0 0 none) again ((c .before .before .before .before .before .before .t) .given .0 .1 .0) (21 ∷ []) whilestat (on next (1 ∷ []) dostat (on next (6 ∷ []) forstat (on next (16 ∷ []) repeatstat (on next (7 ∷ []) functionstat (on next (11 ∷ []) (on second (7 ∷ []) localfunction localstat) (on next (47 ∷ []) label′ (on next (0 ∷ []) breakstat (on next (8 ∷ []) gotostat exprstat)))))))) x2 (ap (λ (z : ℕ). member z (21 ∷ [])) ((c .before .before .before .before .match2) .keys3)) ∙ next-in ((c .before .before .before .before .before .before .before .before .before .before .before .before .args) .stream .now) (ranks ((c .before .before .before .before .before .before .before .before .before .before .before .before .args) .ranking)) 0 (readers ((c .before .before .before .before .before .before .before .before .before .before .before .before .args) .stream .now) (ranks ((c .before .before .before .before .before .before .before .before .before .before .before .before .args) .ranking)) (((c .before .before .before .before .before .before .before .before .before .before .before .before .args) .g) - 1)) (hold 0 0 none) again ((c .before .before .before .before .before .before .t) .given .0 .1 .0) (1 ∷ []) dostat (on next (6 ∷ []) forstat (on next (16 ∷ []) repeatstat (on next (7 ∷ []) functionstat (on next (11 ∷ []) (on second (7 ∷ []) localfunction localstat) (on next (47 ∷ []) label′ (on next (0 ∷ []) breakstat (on next (8 ∷ []) gotostat exprstat))))))) x2 (ap (λ (z : ℕ). member z (1 ∷ [])) ((c .before .before .before .before .match2) .keys3))) (omega (arith, p)) ((c .before .before .dos) .ensures)
+stat-returns-5 t c = moved ((c .before .before .before .before .before .before .before .before .before .before .before .before .args) .stream .now) ((c .before .before .before .before .before .before .before .before .before .before .before .before .args) .used) 0 ((c .before .before .before .before .before .before .before .before .before .before .before .before .args) .nodes .now) ((c .before .before .dos) .last .1 .0) ((c .before .before .dos) .result) (stats-down ((c .before .before .before .before .before .before .before .before .before .before .before .before .args) .stream .now) ((c .before .before .before .before .before .before .before .before .before .before .before .before .args) .ranking) ((c .before .before .before .before .before .before .before .before .before .before .before .before .args) .g) ((c .before .before .before .before .before .before .before .before .before .before .before .before .args) .c) ((c .before .before .before .before .before .before .before .before .before .if1) .left) ∙ by-kind ((c .before .before .before .before .before .before .before .before .before .before .before .before .args) .stream .now) (ranks ((c .before .before .before .before .before .before .before .before .before .before .before .before .args) .ranking)) 0 (readers ((c .before .before .before .before .before .before .before .before .before .before .before .before .args) .stream .now) (ranks ((c .before .before .before .before .before .before .before .before .before .before .before .before .args) .ranking)) (((c .before .before .before .before .before .before .before .before .before .before .before .before .args) .g) - 1)) (hold 0 0 none) again ((c .before .before .before .before .before .before .before .before .before .before .before .before .args) .c) (9, ifstat) ((21, whilestat) ∷ (1, dostat) ∷ (6, forstat) ∷ (16, repeatstat) ∷ (7, functionstat) ∷ (11, (on second (7 ∷ []) localfunction localstat)) ∷ (47, label′) ∷ (0, breakstat) ∷ (8, gotostat) ∷ []) exprstat (sym ((c .before .before .before .before .before .before .before .before .get-next) .ensures) ∙ (c .before .before .before .before .before .before .t) .given .1) ((c .before .before .before .before .match2) .keys3)) (omega (arith, (get-place ((c .before .before .before .before .before .before .before .before .before .before .before .before .args) .stream .now) ((c .before .before .before .before .before .before .before .before .before .before .before .before .args) .c) (sym ((c .before .before .before .before .before .before .before .before .get-next) .ensures) ∙ (c .before .before .before .before .before .before .t) .given .1)))) ((c .before .before .dos) .ensures)
 
 pub stat-same-length-4 : (t : ℕ) → stat-lts.Need-same-length-4 (
   deep-reads.Asked,
@@ -1332,11 +1266,7 @@ pub stat-returns-6 : (t : ℕ) → stat-lts.Need-returns-6 (
   estat.Post,
 ) (stat-at t) stat.Post
 unfolding statement′
-stat-returns-6 t c =
-    let x = sym ((c .before .before .before .before .before .before .before .before .get-next) .ensures) ∙ (c .before .before .before .before .before .before .t) .given .1 in
-    let p = get-place ((c .before .before .before .before .before .before .before .before .before .before .before .before .args) .stream .now) ((c .before .before .before .before .before .before .before .before .before .before .before .before .args) .c) x in
-    let x2 = got-again ((c .before .before .before .before .before .before .before .before .before .before .before .before .args) .stream .now) ((c .before .before .before .before .before .before .before .before .before .before .before .before .args) .c) x in
-    moved-meets ((c .before .before .before .before .before .before .before .before .before .before .before .before .args) .stream .now) (((c .before .before .before .before .before .before .t) .given .0 .1 .0) .place + 1) (((c .before .before .before .before .before .before .before .before .before .before .before .before .args) .c) .place + 1) ((c .before .before .before .before .before .before .before .before .before .before .before .before .args) .used) 0 ((c .before .before .before .before .before .before .before .before .before .before .before .before .args) .nodes .now) ((c .before .before .fors) .last .1 .0) ((c .before .before .fors) .result) (stats-down ((c .before .before .before .before .before .before .before .before .before .before .before .before .args) .stream .now) ((c .before .before .before .before .before .before .before .before .before .before .before .before .args) .ranking) ((c .before .before .before .before .before .before .before .before .before .before .before .before .args) .g) ((c .before .before .before .before .before .before .before .before .before .before .before .before .args) .c) ((c .before .before .before .before .before .before .before .before .before .if1) .left) ∙ next-out ((c .before .before .before .before .before .before .before .before .before .before .before .before .args) .stream .now) (ranks ((c .before .before .before .before .before .before .before .before .before .before .before .before .args) .ranking)) 0 (readers ((c .before .before .before .before .before .before .before .before .before .before .before .before .args) .stream .now) (ranks ((c .before .before .before .before .before .before .before .before .before .before .before .before .args) .ranking)) (((c .before .before .before .before .before .before .before .before .before .before .before .before .args) .g) - 1)) (hold 0 0 none) again ((c .before .before .before .before .before .before .before .before .before .before .before .before .args) .c) (9 ∷ []) ifstat (on next (21 ∷ []) whilestat (on next (1 ∷ []) dostat (on next (6 ∷ []) forstat (on next (16 ∷ []) repeatstat (on next (7 ∷ []) functionstat (on next (11 ∷ []) (on second (7 ∷ []) localfunction localstat) (on next (47 ∷ []) label′ (on next (0 ∷ []) breakstat (on next (8 ∷ []) gotostat exprstat))))))))) x (ap (λ (z : ℕ). member z (9 ∷ [])) ((c .before .before .before .before .match2) .keys4)) ∙ next-out ((c .before .before .before .before .before .before .before .before .before .before .before .before .args) .stream .now) (ranks ((c .before .before .before .before .before .before .before .before .before .before .before .before .args) .ranking)) 0 (readers ((c .before .before .before .before .before .before .before .before .before .before .before .before .args) .stream .now) (ranks ((c .before .before .before .before .before .before .before .before .before .before .before .before .args) .ranking)) (((c .before .before .before .before .before .before .before .before .before .before .before .before .args) .g) - 1)) (hold 0 0 none) again ((c .before .before .before .before .before .before .t) .given .0 .1 .0) (21 ∷ []) whilestat (on next (1 ∷ []) dostat (on next (6 ∷ []) forstat (on next (16 ∷ []) repeatstat (on next (7 ∷ []) functionstat (on next (11 ∷ []) (on second (7 ∷ []) localfunction localstat) (on next (47 ∷ []) label′ (on next (0 ∷ []) breakstat (on next (8 ∷ []) gotostat exprstat)))))))) x2 (ap (λ (z : ℕ). member z (21 ∷ [])) ((c .before .before .before .before .match2) .keys4)) ∙ next-out ((c .before .before .before .before .before .before .before .before .before .before .before .before .args) .stream .now) (ranks ((c .before .before .before .before .before .before .before .before .before .before .before .before .args) .ranking)) 0 (readers ((c .before .before .before .before .before .before .before .before .before .before .before .before .args) .stream .now) (ranks ((c .before .before .before .before .before .before .before .before .before .before .before .before .args) .ranking)) (((c .before .before .before .before .before .before .before .before .before .before .before .before .args) .g) - 1)) (hold 0 0 none) again ((c .before .before .before .before .before .before .t) .given .0 .1 .0) (1 ∷ []) dostat (on next (6 ∷ []) forstat (on next (16 ∷ []) repeatstat (on next (7 ∷ []) functionstat (on next (11 ∷ []) (on second (7 ∷ []) localfunction localstat) (on next (47 ∷ []) label′ (on next (0 ∷ []) breakstat (on next (8 ∷ []) gotostat exprstat))))))) x2 (ap (λ (z : ℕ). member z (1 ∷ [])) ((c .before .before .before .before .match2) .keys4)) ∙ next-in ((c .before .before .before .before .before .before .before .before .before .before .before .before .args) .stream .now) (ranks ((c .before .before .before .before .before .before .before .before .before .before .before .before .args) .ranking)) 0 (readers ((c .before .before .before .before .before .before .before .before .before .before .before .before .args) .stream .now) (ranks ((c .before .before .before .before .before .before .before .before .before .before .before .before .args) .ranking)) (((c .before .before .before .before .before .before .before .before .before .before .before .before .args) .g) - 1)) (hold 0 0 none) again ((c .before .before .before .before .before .before .t) .given .0 .1 .0) (6 ∷ []) forstat (on next (16 ∷ []) repeatstat (on next (7 ∷ []) functionstat (on next (11 ∷ []) (on second (7 ∷ []) localfunction localstat) (on next (47 ∷ []) label′ (on next (0 ∷ []) breakstat (on next (8 ∷ []) gotostat exprstat)))))) x2 (ap (λ (z : ℕ). member z (6 ∷ [])) ((c .before .before .before .before .match2) .keys4))) (omega (arith, p)) ((c .before .before .fors) .ensures)
+stat-returns-6 t c = moved ((c .before .before .before .before .before .before .before .before .before .before .before .before .args) .stream .now) ((c .before .before .before .before .before .before .before .before .before .before .before .before .args) .used) 0 ((c .before .before .before .before .before .before .before .before .before .before .before .before .args) .nodes .now) ((c .before .before .fors) .last .1 .0) ((c .before .before .fors) .result) (stats-down ((c .before .before .before .before .before .before .before .before .before .before .before .before .args) .stream .now) ((c .before .before .before .before .before .before .before .before .before .before .before .before .args) .ranking) ((c .before .before .before .before .before .before .before .before .before .before .before .before .args) .g) ((c .before .before .before .before .before .before .before .before .before .before .before .before .args) .c) ((c .before .before .before .before .before .before .before .before .before .if1) .left) ∙ by-kind ((c .before .before .before .before .before .before .before .before .before .before .before .before .args) .stream .now) (ranks ((c .before .before .before .before .before .before .before .before .before .before .before .before .args) .ranking)) 0 (readers ((c .before .before .before .before .before .before .before .before .before .before .before .before .args) .stream .now) (ranks ((c .before .before .before .before .before .before .before .before .before .before .before .before .args) .ranking)) (((c .before .before .before .before .before .before .before .before .before .before .before .before .args) .g) - 1)) (hold 0 0 none) again ((c .before .before .before .before .before .before .before .before .before .before .before .before .args) .c) (9, ifstat) ((21, whilestat) ∷ (1, dostat) ∷ (6, forstat) ∷ (16, repeatstat) ∷ (7, functionstat) ∷ (11, (on second (7 ∷ []) localfunction localstat)) ∷ (47, label′) ∷ (0, breakstat) ∷ (8, gotostat) ∷ []) exprstat (sym ((c .before .before .before .before .before .before .before .before .get-next) .ensures) ∙ (c .before .before .before .before .before .before .t) .given .1) ((c .before .before .before .before .match2) .keys4)) (omega (arith, (get-place ((c .before .before .before .before .before .before .before .before .before .before .before .before .args) .stream .now) ((c .before .before .before .before .before .before .before .before .before .before .before .before .args) .c) (sym ((c .before .before .before .before .before .before .before .before .get-next) .ensures) ∙ (c .before .before .before .before .before .before .t) .given .1)))) ((c .before .before .fors) .ensures)
 
 pub stat-same-length-5 : (t : ℕ) → stat-lts.Need-same-length-5 (
   deep-reads.Asked,
@@ -1405,11 +1335,7 @@ pub stat-returns-7 : (t : ℕ) → stat-lts.Need-returns-7 (
   estat.Post,
 ) (stat-at t) stat.Post
 unfolding statement′
-stat-returns-7 t c =
-    let x = sym ((c .before .before .before .before .before .before .before .before .get-next) .ensures) ∙ (c .before .before .before .before .before .before .t) .given .1 in
-    let p = get-place ((c .before .before .before .before .before .before .before .before .before .before .before .before .args) .stream .now) ((c .before .before .before .before .before .before .before .before .before .before .before .before .args) .c) x in
-    let x2 = got-again ((c .before .before .before .before .before .before .before .before .before .before .before .before .args) .stream .now) ((c .before .before .before .before .before .before .before .before .before .before .before .before .args) .c) x in
-    moved-meets ((c .before .before .before .before .before .before .before .before .before .before .before .before .args) .stream .now) (((c .before .before .before .before .before .before .t) .given .0 .1 .0) .place + 1) (((c .before .before .before .before .before .before .before .before .before .before .before .before .args) .c) .place + 1) ((c .before .before .before .before .before .before .before .before .before .before .before .before .args) .used) 0 ((c .before .before .before .before .before .before .before .before .before .before .before .before .args) .nodes .now) ((c .before .before .repeats) .last .1 .0) ((c .before .before .repeats) .result) (stats-down ((c .before .before .before .before .before .before .before .before .before .before .before .before .args) .stream .now) ((c .before .before .before .before .before .before .before .before .before .before .before .before .args) .ranking) ((c .before .before .before .before .before .before .before .before .before .before .before .before .args) .g) ((c .before .before .before .before .before .before .before .before .before .before .before .before .args) .c) ((c .before .before .before .before .before .before .before .before .before .if1) .left) ∙ next-out ((c .before .before .before .before .before .before .before .before .before .before .before .before .args) .stream .now) (ranks ((c .before .before .before .before .before .before .before .before .before .before .before .before .args) .ranking)) 0 (readers ((c .before .before .before .before .before .before .before .before .before .before .before .before .args) .stream .now) (ranks ((c .before .before .before .before .before .before .before .before .before .before .before .before .args) .ranking)) (((c .before .before .before .before .before .before .before .before .before .before .before .before .args) .g) - 1)) (hold 0 0 none) again ((c .before .before .before .before .before .before .before .before .before .before .before .before .args) .c) (9 ∷ []) ifstat (on next (21 ∷ []) whilestat (on next (1 ∷ []) dostat (on next (6 ∷ []) forstat (on next (16 ∷ []) repeatstat (on next (7 ∷ []) functionstat (on next (11 ∷ []) (on second (7 ∷ []) localfunction localstat) (on next (47 ∷ []) label′ (on next (0 ∷ []) breakstat (on next (8 ∷ []) gotostat exprstat))))))))) x (ap (λ (z : ℕ). member z (9 ∷ [])) ((c .before .before .before .before .match2) .keys5)) ∙ next-out ((c .before .before .before .before .before .before .before .before .before .before .before .before .args) .stream .now) (ranks ((c .before .before .before .before .before .before .before .before .before .before .before .before .args) .ranking)) 0 (readers ((c .before .before .before .before .before .before .before .before .before .before .before .before .args) .stream .now) (ranks ((c .before .before .before .before .before .before .before .before .before .before .before .before .args) .ranking)) (((c .before .before .before .before .before .before .before .before .before .before .before .before .args) .g) - 1)) (hold 0 0 none) again ((c .before .before .before .before .before .before .t) .given .0 .1 .0) (21 ∷ []) whilestat (on next (1 ∷ []) dostat (on next (6 ∷ []) forstat (on next (16 ∷ []) repeatstat (on next (7 ∷ []) functionstat (on next (11 ∷ []) (on second (7 ∷ []) localfunction localstat) (on next (47 ∷ []) label′ (on next (0 ∷ []) breakstat (on next (8 ∷ []) gotostat exprstat)))))))) x2 (ap (λ (z : ℕ). member z (21 ∷ [])) ((c .before .before .before .before .match2) .keys5)) ∙ next-out ((c .before .before .before .before .before .before .before .before .before .before .before .before .args) .stream .now) (ranks ((c .before .before .before .before .before .before .before .before .before .before .before .before .args) .ranking)) 0 (readers ((c .before .before .before .before .before .before .before .before .before .before .before .before .args) .stream .now) (ranks ((c .before .before .before .before .before .before .before .before .before .before .before .before .args) .ranking)) (((c .before .before .before .before .before .before .before .before .before .before .before .before .args) .g) - 1)) (hold 0 0 none) again ((c .before .before .before .before .before .before .t) .given .0 .1 .0) (1 ∷ []) dostat (on next (6 ∷ []) forstat (on next (16 ∷ []) repeatstat (on next (7 ∷ []) functionstat (on next (11 ∷ []) (on second (7 ∷ []) localfunction localstat) (on next (47 ∷ []) label′ (on next (0 ∷ []) breakstat (on next (8 ∷ []) gotostat exprstat))))))) x2 (ap (λ (z : ℕ). member z (1 ∷ [])) ((c .before .before .before .before .match2) .keys5)) ∙ next-out ((c .before .before .before .before .before .before .before .before .before .before .before .before .args) .stream .now) (ranks ((c .before .before .before .before .before .before .before .before .before .before .before .before .args) .ranking)) 0 (readers ((c .before .before .before .before .before .before .before .before .before .before .before .before .args) .stream .now) (ranks ((c .before .before .before .before .before .before .before .before .before .before .before .before .args) .ranking)) (((c .before .before .before .before .before .before .before .before .before .before .before .before .args) .g) - 1)) (hold 0 0 none) again ((c .before .before .before .before .before .before .t) .given .0 .1 .0) (6 ∷ []) forstat (on next (16 ∷ []) repeatstat (on next (7 ∷ []) functionstat (on next (11 ∷ []) (on second (7 ∷ []) localfunction localstat) (on next (47 ∷ []) label′ (on next (0 ∷ []) breakstat (on next (8 ∷ []) gotostat exprstat)))))) x2 (ap (λ (z : ℕ). member z (6 ∷ [])) ((c .before .before .before .before .match2) .keys5)) ∙ next-in ((c .before .before .before .before .before .before .before .before .before .before .before .before .args) .stream .now) (ranks ((c .before .before .before .before .before .before .before .before .before .before .before .before .args) .ranking)) 0 (readers ((c .before .before .before .before .before .before .before .before .before .before .before .before .args) .stream .now) (ranks ((c .before .before .before .before .before .before .before .before .before .before .before .before .args) .ranking)) (((c .before .before .before .before .before .before .before .before .before .before .before .before .args) .g) - 1)) (hold 0 0 none) again ((c .before .before .before .before .before .before .t) .given .0 .1 .0) (16 ∷ []) repeatstat (on next (7 ∷ []) functionstat (on next (11 ∷ []) (on second (7 ∷ []) localfunction localstat) (on next (47 ∷ []) label′ (on next (0 ∷ []) breakstat (on next (8 ∷ []) gotostat exprstat))))) x2 (ap (λ (z : ℕ). member z (16 ∷ [])) ((c .before .before .before .before .match2) .keys5))) (omega (arith, p)) ((c .before .before .repeats) .ensures)
+stat-returns-7 t c = moved ((c .before .before .before .before .before .before .before .before .before .before .before .before .args) .stream .now) ((c .before .before .before .before .before .before .before .before .before .before .before .before .args) .used) 0 ((c .before .before .before .before .before .before .before .before .before .before .before .before .args) .nodes .now) ((c .before .before .repeats) .last .1 .0) ((c .before .before .repeats) .result) (stats-down ((c .before .before .before .before .before .before .before .before .before .before .before .before .args) .stream .now) ((c .before .before .before .before .before .before .before .before .before .before .before .before .args) .ranking) ((c .before .before .before .before .before .before .before .before .before .before .before .before .args) .g) ((c .before .before .before .before .before .before .before .before .before .before .before .before .args) .c) ((c .before .before .before .before .before .before .before .before .before .if1) .left) ∙ by-kind ((c .before .before .before .before .before .before .before .before .before .before .before .before .args) .stream .now) (ranks ((c .before .before .before .before .before .before .before .before .before .before .before .before .args) .ranking)) 0 (readers ((c .before .before .before .before .before .before .before .before .before .before .before .before .args) .stream .now) (ranks ((c .before .before .before .before .before .before .before .before .before .before .before .before .args) .ranking)) (((c .before .before .before .before .before .before .before .before .before .before .before .before .args) .g) - 1)) (hold 0 0 none) again ((c .before .before .before .before .before .before .before .before .before .before .before .before .args) .c) (9, ifstat) ((21, whilestat) ∷ (1, dostat) ∷ (6, forstat) ∷ (16, repeatstat) ∷ (7, functionstat) ∷ (11, (on second (7 ∷ []) localfunction localstat)) ∷ (47, label′) ∷ (0, breakstat) ∷ (8, gotostat) ∷ []) exprstat (sym ((c .before .before .before .before .before .before .before .before .get-next) .ensures) ∙ (c .before .before .before .before .before .before .t) .given .1) ((c .before .before .before .before .match2) .keys5)) (omega (arith, (get-place ((c .before .before .before .before .before .before .before .before .before .before .before .before .args) .stream .now) ((c .before .before .before .before .before .before .before .before .before .before .before .before .args) .c) (sym ((c .before .before .before .before .before .before .before .before .get-next) .ensures) ∙ (c .before .before .before .before .before .before .t) .given .1)))) ((c .before .before .repeats) .ensures)
 
 pub stat-same-length-6 : (t : ℕ) → stat-lts.Need-same-length-6 (
   deep-reads.Asked,
@@ -1478,11 +1404,7 @@ pub stat-returns-8 : (t : ℕ) → stat-lts.Need-returns-8 (
   estat.Post,
 ) (stat-at t) stat.Post
 unfolding statement′
-stat-returns-8 t c =
-    let x = sym ((c .before .before .before .before .before .before .before .before .get-next) .ensures) ∙ (c .before .before .before .before .before .before .t) .given .1 in
-    let p = get-place ((c .before .before .before .before .before .before .before .before .before .before .before .before .args) .stream .now) ((c .before .before .before .before .before .before .before .before .before .before .before .before .args) .c) x in
-    let x2 = got-again ((c .before .before .before .before .before .before .before .before .before .before .before .before .args) .stream .now) ((c .before .before .before .before .before .before .before .before .before .before .before .before .args) .c) x in
-    moved-meets ((c .before .before .before .before .before .before .before .before .before .before .before .before .args) .stream .now) (((c .before .before .before .before .before .before .t) .given .0 .1 .0) .place + 1) (((c .before .before .before .before .before .before .before .before .before .before .before .before .args) .c) .place + 1) ((c .before .before .before .before .before .before .before .before .before .before .before .before .args) .used) 0 ((c .before .before .before .before .before .before .before .before .before .before .before .before .args) .nodes .now) ((c .before .before .func) .last .1 .0) ((c .before .before .func) .result) (stats-down ((c .before .before .before .before .before .before .before .before .before .before .before .before .args) .stream .now) ((c .before .before .before .before .before .before .before .before .before .before .before .before .args) .ranking) ((c .before .before .before .before .before .before .before .before .before .before .before .before .args) .g) ((c .before .before .before .before .before .before .before .before .before .before .before .before .args) .c) ((c .before .before .before .before .before .before .before .before .before .if1) .left) ∙ next-out ((c .before .before .before .before .before .before .before .before .before .before .before .before .args) .stream .now) (ranks ((c .before .before .before .before .before .before .before .before .before .before .before .before .args) .ranking)) 0 (readers ((c .before .before .before .before .before .before .before .before .before .before .before .before .args) .stream .now) (ranks ((c .before .before .before .before .before .before .before .before .before .before .before .before .args) .ranking)) (((c .before .before .before .before .before .before .before .before .before .before .before .before .args) .g) - 1)) (hold 0 0 none) again ((c .before .before .before .before .before .before .before .before .before .before .before .before .args) .c) (9 ∷ []) ifstat (on next (21 ∷ []) whilestat (on next (1 ∷ []) dostat (on next (6 ∷ []) forstat (on next (16 ∷ []) repeatstat (on next (7 ∷ []) functionstat (on next (11 ∷ []) (on second (7 ∷ []) localfunction localstat) (on next (47 ∷ []) label′ (on next (0 ∷ []) breakstat (on next (8 ∷ []) gotostat exprstat))))))))) x (ap (λ (z : ℕ). member z (9 ∷ [])) ((c .before .before .before .before .match2) .keys6)) ∙ next-out ((c .before .before .before .before .before .before .before .before .before .before .before .before .args) .stream .now) (ranks ((c .before .before .before .before .before .before .before .before .before .before .before .before .args) .ranking)) 0 (readers ((c .before .before .before .before .before .before .before .before .before .before .before .before .args) .stream .now) (ranks ((c .before .before .before .before .before .before .before .before .before .before .before .before .args) .ranking)) (((c .before .before .before .before .before .before .before .before .before .before .before .before .args) .g) - 1)) (hold 0 0 none) again ((c .before .before .before .before .before .before .t) .given .0 .1 .0) (21 ∷ []) whilestat (on next (1 ∷ []) dostat (on next (6 ∷ []) forstat (on next (16 ∷ []) repeatstat (on next (7 ∷ []) functionstat (on next (11 ∷ []) (on second (7 ∷ []) localfunction localstat) (on next (47 ∷ []) label′ (on next (0 ∷ []) breakstat (on next (8 ∷ []) gotostat exprstat)))))))) x2 (ap (λ (z : ℕ). member z (21 ∷ [])) ((c .before .before .before .before .match2) .keys6)) ∙ next-out ((c .before .before .before .before .before .before .before .before .before .before .before .before .args) .stream .now) (ranks ((c .before .before .before .before .before .before .before .before .before .before .before .before .args) .ranking)) 0 (readers ((c .before .before .before .before .before .before .before .before .before .before .before .before .args) .stream .now) (ranks ((c .before .before .before .before .before .before .before .before .before .before .before .before .args) .ranking)) (((c .before .before .before .before .before .before .before .before .before .before .before .before .args) .g) - 1)) (hold 0 0 none) again ((c .before .before .before .before .before .before .t) .given .0 .1 .0) (1 ∷ []) dostat (on next (6 ∷ []) forstat (on next (16 ∷ []) repeatstat (on next (7 ∷ []) functionstat (on next (11 ∷ []) (on second (7 ∷ []) localfunction localstat) (on next (47 ∷ []) label′ (on next (0 ∷ []) breakstat (on next (8 ∷ []) gotostat exprstat))))))) x2 (ap (λ (z : ℕ). member z (1 ∷ [])) ((c .before .before .before .before .match2) .keys6)) ∙ next-out ((c .before .before .before .before .before .before .before .before .before .before .before .before .args) .stream .now) (ranks ((c .before .before .before .before .before .before .before .before .before .before .before .before .args) .ranking)) 0 (readers ((c .before .before .before .before .before .before .before .before .before .before .before .before .args) .stream .now) (ranks ((c .before .before .before .before .before .before .before .before .before .before .before .before .args) .ranking)) (((c .before .before .before .before .before .before .before .before .before .before .before .before .args) .g) - 1)) (hold 0 0 none) again ((c .before .before .before .before .before .before .t) .given .0 .1 .0) (6 ∷ []) forstat (on next (16 ∷ []) repeatstat (on next (7 ∷ []) functionstat (on next (11 ∷ []) (on second (7 ∷ []) localfunction localstat) (on next (47 ∷ []) label′ (on next (0 ∷ []) breakstat (on next (8 ∷ []) gotostat exprstat)))))) x2 (ap (λ (z : ℕ). member z (6 ∷ [])) ((c .before .before .before .before .match2) .keys6)) ∙ next-out ((c .before .before .before .before .before .before .before .before .before .before .before .before .args) .stream .now) (ranks ((c .before .before .before .before .before .before .before .before .before .before .before .before .args) .ranking)) 0 (readers ((c .before .before .before .before .before .before .before .before .before .before .before .before .args) .stream .now) (ranks ((c .before .before .before .before .before .before .before .before .before .before .before .before .args) .ranking)) (((c .before .before .before .before .before .before .before .before .before .before .before .before .args) .g) - 1)) (hold 0 0 none) again ((c .before .before .before .before .before .before .t) .given .0 .1 .0) (16 ∷ []) repeatstat (on next (7 ∷ []) functionstat (on next (11 ∷ []) (on second (7 ∷ []) localfunction localstat) (on next (47 ∷ []) label′ (on next (0 ∷ []) breakstat (on next (8 ∷ []) gotostat exprstat))))) x2 (ap (λ (z : ℕ). member z (16 ∷ [])) ((c .before .before .before .before .match2) .keys6)) ∙ next-in ((c .before .before .before .before .before .before .before .before .before .before .before .before .args) .stream .now) (ranks ((c .before .before .before .before .before .before .before .before .before .before .before .before .args) .ranking)) 0 (readers ((c .before .before .before .before .before .before .before .before .before .before .before .before .args) .stream .now) (ranks ((c .before .before .before .before .before .before .before .before .before .before .before .before .args) .ranking)) (((c .before .before .before .before .before .before .before .before .before .before .before .before .args) .g) - 1)) (hold 0 0 none) again ((c .before .before .before .before .before .before .t) .given .0 .1 .0) (7 ∷ []) functionstat (on next (11 ∷ []) (on second (7 ∷ []) localfunction localstat) (on next (47 ∷ []) label′ (on next (0 ∷ []) breakstat (on next (8 ∷ []) gotostat exprstat)))) x2 (ap (λ (z : ℕ). member z (7 ∷ [])) ((c .before .before .before .before .match2) .keys6))) (omega (arith, p)) ((c .before .before .func) .ensures)
+stat-returns-8 t c = moved ((c .before .before .before .before .before .before .before .before .before .before .before .before .args) .stream .now) ((c .before .before .before .before .before .before .before .before .before .before .before .before .args) .used) 0 ((c .before .before .before .before .before .before .before .before .before .before .before .before .args) .nodes .now) ((c .before .before .func) .last .1 .0) ((c .before .before .func) .result) (stats-down ((c .before .before .before .before .before .before .before .before .before .before .before .before .args) .stream .now) ((c .before .before .before .before .before .before .before .before .before .before .before .before .args) .ranking) ((c .before .before .before .before .before .before .before .before .before .before .before .before .args) .g) ((c .before .before .before .before .before .before .before .before .before .before .before .before .args) .c) ((c .before .before .before .before .before .before .before .before .before .if1) .left) ∙ by-kind ((c .before .before .before .before .before .before .before .before .before .before .before .before .args) .stream .now) (ranks ((c .before .before .before .before .before .before .before .before .before .before .before .before .args) .ranking)) 0 (readers ((c .before .before .before .before .before .before .before .before .before .before .before .before .args) .stream .now) (ranks ((c .before .before .before .before .before .before .before .before .before .before .before .before .args) .ranking)) (((c .before .before .before .before .before .before .before .before .before .before .before .before .args) .g) - 1)) (hold 0 0 none) again ((c .before .before .before .before .before .before .before .before .before .before .before .before .args) .c) (9, ifstat) ((21, whilestat) ∷ (1, dostat) ∷ (6, forstat) ∷ (16, repeatstat) ∷ (7, functionstat) ∷ (11, (on second (7 ∷ []) localfunction localstat)) ∷ (47, label′) ∷ (0, breakstat) ∷ (8, gotostat) ∷ []) exprstat (sym ((c .before .before .before .before .before .before .before .before .get-next) .ensures) ∙ (c .before .before .before .before .before .before .t) .given .1) ((c .before .before .before .before .match2) .keys6)) (omega (arith, (get-place ((c .before .before .before .before .before .before .before .before .before .before .before .before .args) .stream .now) ((c .before .before .before .before .before .before .before .before .before .before .before .before .args) .c) (sym ((c .before .before .before .before .before .before .before .before .get-next) .ensures) ∙ (c .before .before .before .before .before .before .t) .given .1)))) ((c .before .before .func) .ensures)
 
 pub stat-same-length-7 : (t : ℕ) → stat-lts.Need-same-length-7 (
   deep-reads.Asked,
@@ -1551,13 +1473,7 @@ pub stat-returns-9 : (t : ℕ) → stat-lts.Need-returns-9 (
   estat.Post,
 ) (stat-at t) stat.Post
 unfolding statement′
-stat-returns-9 t c =
-    let x = sym ((c .before .before .before .before .before .before .before .before .before .before .before .get-next) .ensures) ∙ (c .before .before .before .before .before .before .before .before .before .t) .given .1 in
-    let p = get-place ((c .before .before .before .before .before .before .before .before .before .before .before .before .before .before .before .args) .stream .now) ((c .before .before .before .before .before .before .before .before .before .before .before .before .before .before .before .args) .c) x in
-    let x2 = got-again ((c .before .before .before .before .before .before .before .before .before .before .before .before .before .before .before .args) .stream .now) ((c .before .before .before .before .before .before .before .before .before .before .before .before .before .before .before .args) .c) x in
-    let pc = check-place ((c .before .before .before .before .before .before .before .before .before .before .before .before .before .before .before .args) .stream .now) ((c .before .before .before .before .before .before .before .before .before .t) .given .0 .1 .0) 1 7 ((c .before .before .before .before .before .before .check-ahead) .ensures) in
-    let o = stats-down ((c .before .before .before .before .before .before .before .before .before .before .before .before .before .before .before .args) .stream .now) ((c .before .before .before .before .before .before .before .before .before .before .before .before .before .before .before .args) .ranking) ((c .before .before .before .before .before .before .before .before .before .before .before .before .before .before .before .args) .g) ((c .before .before .before .before .before .before .before .before .before .before .before .before .before .before .before .args) .c) ((c .before .before .before .before .before .before .before .before .before .before .before .before .if1) .left) ∙ next-out ((c .before .before .before .before .before .before .before .before .before .before .before .before .before .before .before .args) .stream .now) (ranks ((c .before .before .before .before .before .before .before .before .before .before .before .before .before .before .before .args) .ranking)) 0 (readers ((c .before .before .before .before .before .before .before .before .before .before .before .before .before .before .before .args) .stream .now) (ranks ((c .before .before .before .before .before .before .before .before .before .before .before .before .before .before .before .args) .ranking)) (((c .before .before .before .before .before .before .before .before .before .before .before .before .before .before .before .args) .g) - 1)) (hold 0 0 none) again ((c .before .before .before .before .before .before .before .before .before .before .before .before .before .before .before .args) .c) (9 ∷ []) ifstat (on next (21 ∷ []) whilestat (on next (1 ∷ []) dostat (on next (6 ∷ []) forstat (on next (16 ∷ []) repeatstat (on next (7 ∷ []) functionstat (on next (11 ∷ []) (on second (7 ∷ []) localfunction localstat) (on next (47 ∷ []) label′ (on next (0 ∷ []) breakstat (on next (8 ∷ []) gotostat exprstat))))))))) x (ap (λ (z : ℕ). member z (9 ∷ [])) ((c .before .before .before .before .before .before .before .match2) .keys7)) ∙ next-out ((c .before .before .before .before .before .before .before .before .before .before .before .before .before .before .before .args) .stream .now) (ranks ((c .before .before .before .before .before .before .before .before .before .before .before .before .before .before .before .args) .ranking)) 0 (readers ((c .before .before .before .before .before .before .before .before .before .before .before .before .before .before .before .args) .stream .now) (ranks ((c .before .before .before .before .before .before .before .before .before .before .before .before .before .before .before .args) .ranking)) (((c .before .before .before .before .before .before .before .before .before .before .before .before .before .before .before .args) .g) - 1)) (hold 0 0 none) again ((c .before .before .before .before .before .before .before .before .before .t) .given .0 .1 .0) (21 ∷ []) whilestat (on next (1 ∷ []) dostat (on next (6 ∷ []) forstat (on next (16 ∷ []) repeatstat (on next (7 ∷ []) functionstat (on next (11 ∷ []) (on second (7 ∷ []) localfunction localstat) (on next (47 ∷ []) label′ (on next (0 ∷ []) breakstat (on next (8 ∷ []) gotostat exprstat)))))))) x2 (ap (λ (z : ℕ). member z (21 ∷ [])) ((c .before .before .before .before .before .before .before .match2) .keys7)) ∙ next-out ((c .before .before .before .before .before .before .before .before .before .before .before .before .before .before .before .args) .stream .now) (ranks ((c .before .before .before .before .before .before .before .before .before .before .before .before .before .before .before .args) .ranking)) 0 (readers ((c .before .before .before .before .before .before .before .before .before .before .before .before .before .before .before .args) .stream .now) (ranks ((c .before .before .before .before .before .before .before .before .before .before .before .before .before .before .before .args) .ranking)) (((c .before .before .before .before .before .before .before .before .before .before .before .before .before .before .before .args) .g) - 1)) (hold 0 0 none) again ((c .before .before .before .before .before .before .before .before .before .t) .given .0 .1 .0) (1 ∷ []) dostat (on next (6 ∷ []) forstat (on next (16 ∷ []) repeatstat (on next (7 ∷ []) functionstat (on next (11 ∷ []) (on second (7 ∷ []) localfunction localstat) (on next (47 ∷ []) label′ (on next (0 ∷ []) breakstat (on next (8 ∷ []) gotostat exprstat))))))) x2 (ap (λ (z : ℕ). member z (1 ∷ [])) ((c .before .before .before .before .before .before .before .match2) .keys7)) ∙ next-out ((c .before .before .before .before .before .before .before .before .before .before .before .before .before .before .before .args) .stream .now) (ranks ((c .before .before .before .before .before .before .before .before .before .before .before .before .before .before .before .args) .ranking)) 0 (readers ((c .before .before .before .before .before .before .before .before .before .before .before .before .before .before .before .args) .stream .now) (ranks ((c .before .before .before .before .before .before .before .before .before .before .before .before .before .before .before .args) .ranking)) (((c .before .before .before .before .before .before .before .before .before .before .before .before .before .before .before .args) .g) - 1)) (hold 0 0 none) again ((c .before .before .before .before .before .before .before .before .before .t) .given .0 .1 .0) (6 ∷ []) forstat (on next (16 ∷ []) repeatstat (on next (7 ∷ []) functionstat (on next (11 ∷ []) (on second (7 ∷ []) localfunction localstat) (on next (47 ∷ []) label′ (on next (0 ∷ []) breakstat (on next (8 ∷ []) gotostat exprstat)))))) x2 (ap (λ (z : ℕ). member z (6 ∷ [])) ((c .before .before .before .before .before .before .before .match2) .keys7)) ∙ next-out ((c .before .before .before .before .before .before .before .before .before .before .before .before .before .before .before .args) .stream .now) (ranks ((c .before .before .before .before .before .before .before .before .before .before .before .before .before .before .before .args) .ranking)) 0 (readers ((c .before .before .before .before .before .before .before .before .before .before .before .before .before .before .before .args) .stream .now) (ranks ((c .before .before .before .before .before .before .before .before .before .before .before .before .before .before .before .args) .ranking)) (((c .before .before .before .before .before .before .before .before .before .before .before .before .before .before .before .args) .g) - 1)) (hold 0 0 none) again ((c .before .before .before .before .before .before .before .before .before .t) .given .0 .1 .0) (16 ∷ []) repeatstat (on next (7 ∷ []) functionstat (on next (11 ∷ []) (on second (7 ∷ []) localfunction localstat) (on next (47 ∷ []) label′ (on next (0 ∷ []) breakstat (on next (8 ∷ []) gotostat exprstat))))) x2 (ap (λ (z : ℕ). member z (16 ∷ [])) ((c .before .before .before .before .before .before .before .match2) .keys7)) ∙ next-out ((c .before .before .before .before .before .before .before .before .before .before .before .before .before .before .before .args) .stream .now) (ranks ((c .before .before .before .before .before .before .before .before .before .before .before .before .before .before .before .args) .ranking)) 0 (readers ((c .before .before .before .before .before .before .before .before .before .before .before .before .before .before .before .args) .stream .now) (ranks ((c .before .before .before .before .before .before .before .before .before .before .before .before .before .before .before .args) .ranking)) (((c .before .before .before .before .before .before .before .before .before .before .before .before .before .before .before .args) .g) - 1)) (hold 0 0 none) again ((c .before .before .before .before .before .before .before .before .before .t) .given .0 .1 .0) (7 ∷ []) functionstat (on next (11 ∷ []) (on second (7 ∷ []) localfunction localstat) (on next (47 ∷ []) label′ (on next (0 ∷ []) breakstat (on next (8 ∷ []) gotostat exprstat)))) x2 (ap (λ (z : ℕ). member z (7 ∷ [])) ((c .before .before .before .before .before .before .before .match2) .keys7)) ∙ next-in ((c .before .before .before .before .before .before .before .before .before .before .before .before .before .before .before .args) .stream .now) (ranks ((c .before .before .before .before .before .before .before .before .before .before .before .before .before .before .before .args) .ranking)) 0 (readers ((c .before .before .before .before .before .before .before .before .before .before .before .before .before .before .before .args) .stream .now) (ranks ((c .before .before .before .before .before .before .before .before .before .before .before .before .before .before .before .args) .ranking)) (((c .before .before .before .before .before .before .before .before .before .before .before .before .before .before .before .args) .g) - 1)) (hold 0 0 none) again ((c .before .before .before .before .before .before .before .before .before .t) .given .0 .1 .0) (11 ∷ []) (on second (7 ∷ []) localfunction localstat) (on next (47 ∷ []) label′ (on next (0 ∷ []) breakstat (on next (8 ∷ []) gotostat exprstat))) x2 (ap (λ (z : ℕ). member z (11 ∷ [])) ((c .before .before .before .before .before .before .before .match2) .keys7)) in
-    moved-meets ((c .before .before .before .before .before .before .before .before .before .before .before .before .before .before .before .args) .stream .now) (((c .before .before .before .before .before .before .check-ahead) .result) .cursor .place + 1) (((c .before .before .before .before .before .before .before .before .before .before .before .before .before .before .before .args) .c) .place + 1) ((c .before .before .before .before .before .before .before .before .before .before .before .before .before .before .before .args) .used) 0 ((c .before .before .before .before .before .before .before .before .before .before .before .before .before .before .before .args) .nodes .now) ((c .before .before .lfunc) .last .1 .0) ((c .before .before .lfunc) .result) (o ∙ seconded-in ((c .before .before .before .before .before .before .before .before .before .before .before .before .before .before .before .args) .stream .now) (ranks ((c .before .before .before .before .before .before .before .before .before .before .before .before .before .before .before .args) .ranking)) 0 (readers ((c .before .before .before .before .before .before .before .before .before .before .before .before .before .before .before .args) .stream .now) (ranks ((c .before .before .before .before .before .before .before .before .before .before .before .before .before .before .before .args) .ranking)) (((c .before .before .before .before .before .before .before .before .before .before .before .before .before .before .before .args) .g) - 1)) (hold 0 0 none) again ((c .before .before .before .before .before .before .before .before .before .t) .given .0 .1 .0) ((c .before .before .before .before .before .before .check-ahead) .result) 7 localfunction localstat (λ z. omega arith) ((c .before .before .before .before .before .before .check-ahead) .ensures) ((c .before .before .before .before .if2) .taken)) (omega (arith, p, pc)) ((c .before .before .lfunc) .ensures)
+stat-returns-9 t c = moved ((c .before .before .before .before .before .before .before .before .before .before .before .before .before .before .before .args) .stream .now) ((c .before .before .before .before .before .before .before .before .before .before .before .before .before .before .before .args) .used) 0 ((c .before .before .before .before .before .before .before .before .before .before .before .before .before .before .before .args) .nodes .now) ((c .before .before .lfunc) .last .1 .0) ((c .before .before .lfunc) .result) (stats-down ((c .before .before .before .before .before .before .before .before .before .before .before .before .before .before .before .args) .stream .now) ((c .before .before .before .before .before .before .before .before .before .before .before .before .before .before .before .args) .ranking) ((c .before .before .before .before .before .before .before .before .before .before .before .before .before .before .before .args) .g) ((c .before .before .before .before .before .before .before .before .before .before .before .before .before .before .before .args) .c) ((c .before .before .before .before .before .before .before .before .before .before .before .before .if1) .left) ∙ by-kind ((c .before .before .before .before .before .before .before .before .before .before .before .before .before .before .before .args) .stream .now) (ranks ((c .before .before .before .before .before .before .before .before .before .before .before .before .before .before .before .args) .ranking)) 0 (readers ((c .before .before .before .before .before .before .before .before .before .before .before .before .before .before .before .args) .stream .now) (ranks ((c .before .before .before .before .before .before .before .before .before .before .before .before .before .before .before .args) .ranking)) (((c .before .before .before .before .before .before .before .before .before .before .before .before .before .before .before .args) .g) - 1)) (hold 0 0 none) again ((c .before .before .before .before .before .before .before .before .before .before .before .before .before .before .before .args) .c) (9, ifstat) ((21, whilestat) ∷ (1, dostat) ∷ (6, forstat) ∷ (16, repeatstat) ∷ (7, functionstat) ∷ (11, (on second (7 ∷ []) localfunction localstat)) ∷ (47, label′) ∷ (0, breakstat) ∷ (8, gotostat) ∷ []) exprstat (sym ((c .before .before .before .before .before .before .before .before .before .before .before .get-next) .ensures) ∙ (c .before .before .before .before .before .before .before .before .before .t) .given .1) ((c .before .before .before .before .before .before .before .match2) .keys7) ∙ second-in ((c .before .before .before .before .before .before .before .before .before .before .before .before .before .before .before .args) .stream .now) (ranks ((c .before .before .before .before .before .before .before .before .before .before .before .before .before .before .before .args) .ranking)) 0 (readers ((c .before .before .before .before .before .before .before .before .before .before .before .before .before .before .before .args) .stream .now) (ranks ((c .before .before .before .before .before .before .before .before .before .before .before .before .before .before .before .args) .ranking)) (((c .before .before .before .before .before .before .before .before .before .before .before .before .before .before .before .args) .g) - 1)) (hold 0 0 none) again ((c .before .before .before .before .before .before .before .before .before .t) .given .0 .1 .0) 7 localfunction localstat (λ z. omega arith) ((c .before .before .before .before .before .before .check-ahead) .ensures) ((c .before .before .before .before .if2) .taken)) (omega (arith, (check-place ((c .before .before .before .before .before .before .before .before .before .before .before .before .before .before .before .args) .stream .now) ((c .before .before .before .before .before .before .before .before .before .t) .given .0 .1 .0) 1 7 ((c .before .before .before .before .before .before .check-ahead) .ensures)), (get-place ((c .before .before .before .before .before .before .before .before .before .before .before .before .before .before .before .args) .stream .now) ((c .before .before .before .before .before .before .before .before .before .before .before .before .before .before .before .args) .c) (sym ((c .before .before .before .before .before .before .before .before .before .before .before .get-next) .ensures) ∙ (c .before .before .before .before .before .before .before .before .before .t) .given .1)))) ((c .before .before .lfunc) .ensures)
 
 pub stat-same-length-8 : (t : ℕ) → stat-lts.Need-same-length-8 (
   deep-reads.Asked,
@@ -1626,13 +1542,7 @@ pub stat-returns-10 : (t : ℕ) → stat-lts.Need-returns-10 (
   estat.Post,
 ) (stat-at t) stat.Post
 unfolding statement′
-stat-returns-10 t c =
-    let x = sym ((c .before .before .before .before .before .before .before .before .before .before .before .get-next) .ensures) ∙ (c .before .before .before .before .before .before .before .before .before .t) .given .1 in
-    let p = get-place ((c .before .before .before .before .before .before .before .before .before .before .before .before .before .before .before .args) .stream .now) ((c .before .before .before .before .before .before .before .before .before .before .before .before .before .before .before .args) .c) x in
-    let x2 = got-again ((c .before .before .before .before .before .before .before .before .before .before .before .before .before .before .before .args) .stream .now) ((c .before .before .before .before .before .before .before .before .before .before .before .before .before .before .before .args) .c) x in
-    let pc = check-place ((c .before .before .before .before .before .before .before .before .before .before .before .before .before .before .before .args) .stream .now) ((c .before .before .before .before .before .before .before .before .before .t) .given .0 .1 .0) 1 7 ((c .before .before .before .before .before .before .check-ahead) .ensures) in
-    let o = stats-down ((c .before .before .before .before .before .before .before .before .before .before .before .before .before .before .before .args) .stream .now) ((c .before .before .before .before .before .before .before .before .before .before .before .before .before .before .before .args) .ranking) ((c .before .before .before .before .before .before .before .before .before .before .before .before .before .before .before .args) .g) ((c .before .before .before .before .before .before .before .before .before .before .before .before .before .before .before .args) .c) ((c .before .before .before .before .before .before .before .before .before .before .before .before .if1) .left) ∙ next-out ((c .before .before .before .before .before .before .before .before .before .before .before .before .before .before .before .args) .stream .now) (ranks ((c .before .before .before .before .before .before .before .before .before .before .before .before .before .before .before .args) .ranking)) 0 (readers ((c .before .before .before .before .before .before .before .before .before .before .before .before .before .before .before .args) .stream .now) (ranks ((c .before .before .before .before .before .before .before .before .before .before .before .before .before .before .before .args) .ranking)) (((c .before .before .before .before .before .before .before .before .before .before .before .before .before .before .before .args) .g) - 1)) (hold 0 0 none) again ((c .before .before .before .before .before .before .before .before .before .before .before .before .before .before .before .args) .c) (9 ∷ []) ifstat (on next (21 ∷ []) whilestat (on next (1 ∷ []) dostat (on next (6 ∷ []) forstat (on next (16 ∷ []) repeatstat (on next (7 ∷ []) functionstat (on next (11 ∷ []) (on second (7 ∷ []) localfunction localstat) (on next (47 ∷ []) label′ (on next (0 ∷ []) breakstat (on next (8 ∷ []) gotostat exprstat))))))))) x (ap (λ (z : ℕ). member z (9 ∷ [])) ((c .before .before .before .before .before .before .before .match2) .keys7)) ∙ next-out ((c .before .before .before .before .before .before .before .before .before .before .before .before .before .before .before .args) .stream .now) (ranks ((c .before .before .before .before .before .before .before .before .before .before .before .before .before .before .before .args) .ranking)) 0 (readers ((c .before .before .before .before .before .before .before .before .before .before .before .before .before .before .before .args) .stream .now) (ranks ((c .before .before .before .before .before .before .before .before .before .before .before .before .before .before .before .args) .ranking)) (((c .before .before .before .before .before .before .before .before .before .before .before .before .before .before .before .args) .g) - 1)) (hold 0 0 none) again ((c .before .before .before .before .before .before .before .before .before .t) .given .0 .1 .0) (21 ∷ []) whilestat (on next (1 ∷ []) dostat (on next (6 ∷ []) forstat (on next (16 ∷ []) repeatstat (on next (7 ∷ []) functionstat (on next (11 ∷ []) (on second (7 ∷ []) localfunction localstat) (on next (47 ∷ []) label′ (on next (0 ∷ []) breakstat (on next (8 ∷ []) gotostat exprstat)))))))) x2 (ap (λ (z : ℕ). member z (21 ∷ [])) ((c .before .before .before .before .before .before .before .match2) .keys7)) ∙ next-out ((c .before .before .before .before .before .before .before .before .before .before .before .before .before .before .before .args) .stream .now) (ranks ((c .before .before .before .before .before .before .before .before .before .before .before .before .before .before .before .args) .ranking)) 0 (readers ((c .before .before .before .before .before .before .before .before .before .before .before .before .before .before .before .args) .stream .now) (ranks ((c .before .before .before .before .before .before .before .before .before .before .before .before .before .before .before .args) .ranking)) (((c .before .before .before .before .before .before .before .before .before .before .before .before .before .before .before .args) .g) - 1)) (hold 0 0 none) again ((c .before .before .before .before .before .before .before .before .before .t) .given .0 .1 .0) (1 ∷ []) dostat (on next (6 ∷ []) forstat (on next (16 ∷ []) repeatstat (on next (7 ∷ []) functionstat (on next (11 ∷ []) (on second (7 ∷ []) localfunction localstat) (on next (47 ∷ []) label′ (on next (0 ∷ []) breakstat (on next (8 ∷ []) gotostat exprstat))))))) x2 (ap (λ (z : ℕ). member z (1 ∷ [])) ((c .before .before .before .before .before .before .before .match2) .keys7)) ∙ next-out ((c .before .before .before .before .before .before .before .before .before .before .before .before .before .before .before .args) .stream .now) (ranks ((c .before .before .before .before .before .before .before .before .before .before .before .before .before .before .before .args) .ranking)) 0 (readers ((c .before .before .before .before .before .before .before .before .before .before .before .before .before .before .before .args) .stream .now) (ranks ((c .before .before .before .before .before .before .before .before .before .before .before .before .before .before .before .args) .ranking)) (((c .before .before .before .before .before .before .before .before .before .before .before .before .before .before .before .args) .g) - 1)) (hold 0 0 none) again ((c .before .before .before .before .before .before .before .before .before .t) .given .0 .1 .0) (6 ∷ []) forstat (on next (16 ∷ []) repeatstat (on next (7 ∷ []) functionstat (on next (11 ∷ []) (on second (7 ∷ []) localfunction localstat) (on next (47 ∷ []) label′ (on next (0 ∷ []) breakstat (on next (8 ∷ []) gotostat exprstat)))))) x2 (ap (λ (z : ℕ). member z (6 ∷ [])) ((c .before .before .before .before .before .before .before .match2) .keys7)) ∙ next-out ((c .before .before .before .before .before .before .before .before .before .before .before .before .before .before .before .args) .stream .now) (ranks ((c .before .before .before .before .before .before .before .before .before .before .before .before .before .before .before .args) .ranking)) 0 (readers ((c .before .before .before .before .before .before .before .before .before .before .before .before .before .before .before .args) .stream .now) (ranks ((c .before .before .before .before .before .before .before .before .before .before .before .before .before .before .before .args) .ranking)) (((c .before .before .before .before .before .before .before .before .before .before .before .before .before .before .before .args) .g) - 1)) (hold 0 0 none) again ((c .before .before .before .before .before .before .before .before .before .t) .given .0 .1 .0) (16 ∷ []) repeatstat (on next (7 ∷ []) functionstat (on next (11 ∷ []) (on second (7 ∷ []) localfunction localstat) (on next (47 ∷ []) label′ (on next (0 ∷ []) breakstat (on next (8 ∷ []) gotostat exprstat))))) x2 (ap (λ (z : ℕ). member z (16 ∷ [])) ((c .before .before .before .before .before .before .before .match2) .keys7)) ∙ next-out ((c .before .before .before .before .before .before .before .before .before .before .before .before .before .before .before .args) .stream .now) (ranks ((c .before .before .before .before .before .before .before .before .before .before .before .before .before .before .before .args) .ranking)) 0 (readers ((c .before .before .before .before .before .before .before .before .before .before .before .before .before .before .before .args) .stream .now) (ranks ((c .before .before .before .before .before .before .before .before .before .before .before .before .before .before .before .args) .ranking)) (((c .before .before .before .before .before .before .before .before .before .before .before .before .before .before .before .args) .g) - 1)) (hold 0 0 none) again ((c .before .before .before .before .before .before .before .before .before .t) .given .0 .1 .0) (7 ∷ []) functionstat (on next (11 ∷ []) (on second (7 ∷ []) localfunction localstat) (on next (47 ∷ []) label′ (on next (0 ∷ []) breakstat (on next (8 ∷ []) gotostat exprstat)))) x2 (ap (λ (z : ℕ). member z (7 ∷ [])) ((c .before .before .before .before .before .before .before .match2) .keys7)) ∙ next-in ((c .before .before .before .before .before .before .before .before .before .before .before .before .before .before .before .args) .stream .now) (ranks ((c .before .before .before .before .before .before .before .before .before .before .before .before .before .before .before .args) .ranking)) 0 (readers ((c .before .before .before .before .before .before .before .before .before .before .before .before .before .before .before .args) .stream .now) (ranks ((c .before .before .before .before .before .before .before .before .before .before .before .before .before .before .before .args) .ranking)) (((c .before .before .before .before .before .before .before .before .before .before .before .before .before .before .before .args) .g) - 1)) (hold 0 0 none) again ((c .before .before .before .before .before .before .before .before .before .t) .given .0 .1 .0) (11 ∷ []) (on second (7 ∷ []) localfunction localstat) (on next (47 ∷ []) label′ (on next (0 ∷ []) breakstat (on next (8 ∷ []) gotostat exprstat))) x2 (ap (λ (z : ℕ). member z (11 ∷ [])) ((c .before .before .before .before .before .before .before .match2) .keys7)) in
-    moved-meets ((c .before .before .before .before .before .before .before .before .before .before .before .before .before .before .before .args) .stream .now) (((c .before .before .before .before .before .before .check-ahead) .result) .cursor .place + 1) (((c .before .before .before .before .before .before .before .before .before .before .before .before .before .before .before .args) .c) .place + 1) ((c .before .before .before .before .before .before .before .before .before .before .before .before .before .before .before .args) .used) 0 ((c .before .before .before .before .before .before .before .before .before .before .before .before .before .before .before .args) .nodes .now) ((c .before .before .locs) .last .1 .0) ((c .before .before .locs) .result) (o ∙ seconded-out ((c .before .before .before .before .before .before .before .before .before .before .before .before .before .before .before .args) .stream .now) (ranks ((c .before .before .before .before .before .before .before .before .before .before .before .before .before .before .before .args) .ranking)) 0 (readers ((c .before .before .before .before .before .before .before .before .before .before .before .before .before .before .before .args) .stream .now) (ranks ((c .before .before .before .before .before .before .before .before .before .before .before .before .before .before .before .args) .ranking)) (((c .before .before .before .before .before .before .before .before .before .before .before .before .before .before .before .args) .g) - 1)) (hold 0 0 none) again ((c .before .before .before .before .before .before .before .before .before .t) .given .0 .1 .0) ((c .before .before .before .before .before .before .check-ahead) .result) 7 localfunction localstat (λ z. omega arith) ((c .before .before .before .before .before .before .check-ahead) .ensures) ((c .before .before .before .before .if2) .left)) (omega (arith, p, pc)) ((c .before .before .locs) .ensures)
+stat-returns-10 t c = moved ((c .before .before .before .before .before .before .before .before .before .before .before .before .before .before .before .args) .stream .now) ((c .before .before .before .before .before .before .before .before .before .before .before .before .before .before .before .args) .used) 0 ((c .before .before .before .before .before .before .before .before .before .before .before .before .before .before .before .args) .nodes .now) ((c .before .before .locs) .last .1 .0) ((c .before .before .locs) .result) (stats-down ((c .before .before .before .before .before .before .before .before .before .before .before .before .before .before .before .args) .stream .now) ((c .before .before .before .before .before .before .before .before .before .before .before .before .before .before .before .args) .ranking) ((c .before .before .before .before .before .before .before .before .before .before .before .before .before .before .before .args) .g) ((c .before .before .before .before .before .before .before .before .before .before .before .before .before .before .before .args) .c) ((c .before .before .before .before .before .before .before .before .before .before .before .before .if1) .left) ∙ by-kind ((c .before .before .before .before .before .before .before .before .before .before .before .before .before .before .before .args) .stream .now) (ranks ((c .before .before .before .before .before .before .before .before .before .before .before .before .before .before .before .args) .ranking)) 0 (readers ((c .before .before .before .before .before .before .before .before .before .before .before .before .before .before .before .args) .stream .now) (ranks ((c .before .before .before .before .before .before .before .before .before .before .before .before .before .before .before .args) .ranking)) (((c .before .before .before .before .before .before .before .before .before .before .before .before .before .before .before .args) .g) - 1)) (hold 0 0 none) again ((c .before .before .before .before .before .before .before .before .before .before .before .before .before .before .before .args) .c) (9, ifstat) ((21, whilestat) ∷ (1, dostat) ∷ (6, forstat) ∷ (16, repeatstat) ∷ (7, functionstat) ∷ (11, (on second (7 ∷ []) localfunction localstat)) ∷ (47, label′) ∷ (0, breakstat) ∷ (8, gotostat) ∷ []) exprstat (sym ((c .before .before .before .before .before .before .before .before .before .before .before .get-next) .ensures) ∙ (c .before .before .before .before .before .before .before .before .before .t) .given .1) ((c .before .before .before .before .before .before .before .match2) .keys7) ∙ second-out ((c .before .before .before .before .before .before .before .before .before .before .before .before .before .before .before .args) .stream .now) (ranks ((c .before .before .before .before .before .before .before .before .before .before .before .before .before .before .before .args) .ranking)) 0 (readers ((c .before .before .before .before .before .before .before .before .before .before .before .before .before .before .before .args) .stream .now) (ranks ((c .before .before .before .before .before .before .before .before .before .before .before .before .before .before .before .args) .ranking)) (((c .before .before .before .before .before .before .before .before .before .before .before .before .before .before .before .args) .g) - 1)) (hold 0 0 none) again ((c .before .before .before .before .before .before .before .before .before .t) .given .0 .1 .0) 7 localfunction localstat (λ z. omega arith) ((c .before .before .before .before .before .before .check-ahead) .ensures) ((c .before .before .before .before .if2) .left)) (omega (arith, (check-place ((c .before .before .before .before .before .before .before .before .before .before .before .before .before .before .before .args) .stream .now) ((c .before .before .before .before .before .before .before .before .before .t) .given .0 .1 .0) 1 7 ((c .before .before .before .before .before .before .check-ahead) .ensures)), (get-place ((c .before .before .before .before .before .before .before .before .before .before .before .before .before .before .before .args) .stream .now) ((c .before .before .before .before .before .before .before .before .before .before .before .before .before .before .before .args) .c) (sym ((c .before .before .before .before .before .before .before .before .before .before .before .get-next) .ensures) ∙ (c .before .before .before .before .before .before .before .before .before .t) .given .1)))) ((c .before .before .locs) .ensures)
 
 pub stat-same-length-9 : (t : ℕ) → stat-lts.Need-same-length-9 (
   deep-reads.Asked,
@@ -1701,11 +1611,7 @@ pub stat-returns-11 : (t : ℕ) → stat-lts.Need-returns-11 (
   estat.Post,
 ) (stat-at t) stat.Post
 unfolding statement′
-stat-returns-11 t c =
-    let x = sym ((c .before .before .before .before .before .before .before .before .get-next) .ensures) ∙ (c .before .before .before .before .before .before .t) .given .1 in
-    let p = get-place ((c .before .before .before .before .before .before .before .before .before .before .before .before .args) .stream .now) ((c .before .before .before .before .before .before .before .before .before .before .before .before .args) .c) x in
-    let x2 = got-again ((c .before .before .before .before .before .before .before .before .before .before .before .before .args) .stream .now) ((c .before .before .before .before .before .before .before .before .before .before .before .before .args) .c) x in
-    moved-meets ((c .before .before .before .before .before .before .before .before .before .before .before .before .args) .stream .now) (((c .before .before .before .before .before .before .t) .given .0 .1 .0) .place + 1) (((c .before .before .before .before .before .before .before .before .before .before .before .before .args) .c) .place + 1) ((c .before .before .before .before .before .before .before .before .before .before .before .before .args) .used) 0 ((c .before .before .before .before .before .before .before .before .before .before .before .before .args) .nodes .now) ((c .before .before .label) .last .1 .0) ((c .before .before .label) .result) (stats-down ((c .before .before .before .before .before .before .before .before .before .before .before .before .args) .stream .now) ((c .before .before .before .before .before .before .before .before .before .before .before .before .args) .ranking) ((c .before .before .before .before .before .before .before .before .before .before .before .before .args) .g) ((c .before .before .before .before .before .before .before .before .before .before .before .before .args) .c) ((c .before .before .before .before .before .before .before .before .before .if1) .left) ∙ next-out ((c .before .before .before .before .before .before .before .before .before .before .before .before .args) .stream .now) (ranks ((c .before .before .before .before .before .before .before .before .before .before .before .before .args) .ranking)) 0 (readers ((c .before .before .before .before .before .before .before .before .before .before .before .before .args) .stream .now) (ranks ((c .before .before .before .before .before .before .before .before .before .before .before .before .args) .ranking)) (((c .before .before .before .before .before .before .before .before .before .before .before .before .args) .g) - 1)) (hold 0 0 none) again ((c .before .before .before .before .before .before .before .before .before .before .before .before .args) .c) (9 ∷ []) ifstat (on next (21 ∷ []) whilestat (on next (1 ∷ []) dostat (on next (6 ∷ []) forstat (on next (16 ∷ []) repeatstat (on next (7 ∷ []) functionstat (on next (11 ∷ []) (on second (7 ∷ []) localfunction localstat) (on next (47 ∷ []) label′ (on next (0 ∷ []) breakstat (on next (8 ∷ []) gotostat exprstat))))))))) x (ap (λ (z : ℕ). member z (9 ∷ [])) ((c .before .before .before .before .match2) .keys8)) ∙ next-out ((c .before .before .before .before .before .before .before .before .before .before .before .before .args) .stream .now) (ranks ((c .before .before .before .before .before .before .before .before .before .before .before .before .args) .ranking)) 0 (readers ((c .before .before .before .before .before .before .before .before .before .before .before .before .args) .stream .now) (ranks ((c .before .before .before .before .before .before .before .before .before .before .before .before .args) .ranking)) (((c .before .before .before .before .before .before .before .before .before .before .before .before .args) .g) - 1)) (hold 0 0 none) again ((c .before .before .before .before .before .before .t) .given .0 .1 .0) (21 ∷ []) whilestat (on next (1 ∷ []) dostat (on next (6 ∷ []) forstat (on next (16 ∷ []) repeatstat (on next (7 ∷ []) functionstat (on next (11 ∷ []) (on second (7 ∷ []) localfunction localstat) (on next (47 ∷ []) label′ (on next (0 ∷ []) breakstat (on next (8 ∷ []) gotostat exprstat)))))))) x2 (ap (λ (z : ℕ). member z (21 ∷ [])) ((c .before .before .before .before .match2) .keys8)) ∙ next-out ((c .before .before .before .before .before .before .before .before .before .before .before .before .args) .stream .now) (ranks ((c .before .before .before .before .before .before .before .before .before .before .before .before .args) .ranking)) 0 (readers ((c .before .before .before .before .before .before .before .before .before .before .before .before .args) .stream .now) (ranks ((c .before .before .before .before .before .before .before .before .before .before .before .before .args) .ranking)) (((c .before .before .before .before .before .before .before .before .before .before .before .before .args) .g) - 1)) (hold 0 0 none) again ((c .before .before .before .before .before .before .t) .given .0 .1 .0) (1 ∷ []) dostat (on next (6 ∷ []) forstat (on next (16 ∷ []) repeatstat (on next (7 ∷ []) functionstat (on next (11 ∷ []) (on second (7 ∷ []) localfunction localstat) (on next (47 ∷ []) label′ (on next (0 ∷ []) breakstat (on next (8 ∷ []) gotostat exprstat))))))) x2 (ap (λ (z : ℕ). member z (1 ∷ [])) ((c .before .before .before .before .match2) .keys8)) ∙ next-out ((c .before .before .before .before .before .before .before .before .before .before .before .before .args) .stream .now) (ranks ((c .before .before .before .before .before .before .before .before .before .before .before .before .args) .ranking)) 0 (readers ((c .before .before .before .before .before .before .before .before .before .before .before .before .args) .stream .now) (ranks ((c .before .before .before .before .before .before .before .before .before .before .before .before .args) .ranking)) (((c .before .before .before .before .before .before .before .before .before .before .before .before .args) .g) - 1)) (hold 0 0 none) again ((c .before .before .before .before .before .before .t) .given .0 .1 .0) (6 ∷ []) forstat (on next (16 ∷ []) repeatstat (on next (7 ∷ []) functionstat (on next (11 ∷ []) (on second (7 ∷ []) localfunction localstat) (on next (47 ∷ []) label′ (on next (0 ∷ []) breakstat (on next (8 ∷ []) gotostat exprstat)))))) x2 (ap (λ (z : ℕ). member z (6 ∷ [])) ((c .before .before .before .before .match2) .keys8)) ∙ next-out ((c .before .before .before .before .before .before .before .before .before .before .before .before .args) .stream .now) (ranks ((c .before .before .before .before .before .before .before .before .before .before .before .before .args) .ranking)) 0 (readers ((c .before .before .before .before .before .before .before .before .before .before .before .before .args) .stream .now) (ranks ((c .before .before .before .before .before .before .before .before .before .before .before .before .args) .ranking)) (((c .before .before .before .before .before .before .before .before .before .before .before .before .args) .g) - 1)) (hold 0 0 none) again ((c .before .before .before .before .before .before .t) .given .0 .1 .0) (16 ∷ []) repeatstat (on next (7 ∷ []) functionstat (on next (11 ∷ []) (on second (7 ∷ []) localfunction localstat) (on next (47 ∷ []) label′ (on next (0 ∷ []) breakstat (on next (8 ∷ []) gotostat exprstat))))) x2 (ap (λ (z : ℕ). member z (16 ∷ [])) ((c .before .before .before .before .match2) .keys8)) ∙ next-out ((c .before .before .before .before .before .before .before .before .before .before .before .before .args) .stream .now) (ranks ((c .before .before .before .before .before .before .before .before .before .before .before .before .args) .ranking)) 0 (readers ((c .before .before .before .before .before .before .before .before .before .before .before .before .args) .stream .now) (ranks ((c .before .before .before .before .before .before .before .before .before .before .before .before .args) .ranking)) (((c .before .before .before .before .before .before .before .before .before .before .before .before .args) .g) - 1)) (hold 0 0 none) again ((c .before .before .before .before .before .before .t) .given .0 .1 .0) (7 ∷ []) functionstat (on next (11 ∷ []) (on second (7 ∷ []) localfunction localstat) (on next (47 ∷ []) label′ (on next (0 ∷ []) breakstat (on next (8 ∷ []) gotostat exprstat)))) x2 (ap (λ (z : ℕ). member z (7 ∷ [])) ((c .before .before .before .before .match2) .keys8)) ∙ next-out ((c .before .before .before .before .before .before .before .before .before .before .before .before .args) .stream .now) (ranks ((c .before .before .before .before .before .before .before .before .before .before .before .before .args) .ranking)) 0 (readers ((c .before .before .before .before .before .before .before .before .before .before .before .before .args) .stream .now) (ranks ((c .before .before .before .before .before .before .before .before .before .before .before .before .args) .ranking)) (((c .before .before .before .before .before .before .before .before .before .before .before .before .args) .g) - 1)) (hold 0 0 none) again ((c .before .before .before .before .before .before .t) .given .0 .1 .0) (11 ∷ []) (on second (7 ∷ []) localfunction localstat) (on next (47 ∷ []) label′ (on next (0 ∷ []) breakstat (on next (8 ∷ []) gotostat exprstat))) x2 (ap (λ (z : ℕ). member z (11 ∷ [])) ((c .before .before .before .before .match2) .keys8)) ∙ next-in ((c .before .before .before .before .before .before .before .before .before .before .before .before .args) .stream .now) (ranks ((c .before .before .before .before .before .before .before .before .before .before .before .before .args) .ranking)) 0 (readers ((c .before .before .before .before .before .before .before .before .before .before .before .before .args) .stream .now) (ranks ((c .before .before .before .before .before .before .before .before .before .before .before .before .args) .ranking)) (((c .before .before .before .before .before .before .before .before .before .before .before .before .args) .g) - 1)) (hold 0 0 none) again ((c .before .before .before .before .before .before .t) .given .0 .1 .0) (47 ∷ []) label′ (on next (0 ∷ []) breakstat (on next (8 ∷ []) gotostat exprstat)) x2 (ap (λ (z : ℕ). member z (47 ∷ [])) ((c .before .before .before .before .match2) .keys8))) (omega (arith, p)) ((c .before .before .label) .ensures ((c .before .before .before .before .before .before .before .before .before .before .before .before .args) .ranking) (((c .before .before .before .before .before .before .before .before .before .before .before .before .args) .g) - 1))
+stat-returns-11 t c = moved ((c .before .before .before .before .before .before .before .before .before .before .before .before .args) .stream .now) ((c .before .before .before .before .before .before .before .before .before .before .before .before .args) .used) 0 ((c .before .before .before .before .before .before .before .before .before .before .before .before .args) .nodes .now) ((c .before .before .label) .last .1 .0) ((c .before .before .label) .result) (stats-down ((c .before .before .before .before .before .before .before .before .before .before .before .before .args) .stream .now) ((c .before .before .before .before .before .before .before .before .before .before .before .before .args) .ranking) ((c .before .before .before .before .before .before .before .before .before .before .before .before .args) .g) ((c .before .before .before .before .before .before .before .before .before .before .before .before .args) .c) ((c .before .before .before .before .before .before .before .before .before .if1) .left) ∙ by-kind ((c .before .before .before .before .before .before .before .before .before .before .before .before .args) .stream .now) (ranks ((c .before .before .before .before .before .before .before .before .before .before .before .before .args) .ranking)) 0 (readers ((c .before .before .before .before .before .before .before .before .before .before .before .before .args) .stream .now) (ranks ((c .before .before .before .before .before .before .before .before .before .before .before .before .args) .ranking)) (((c .before .before .before .before .before .before .before .before .before .before .before .before .args) .g) - 1)) (hold 0 0 none) again ((c .before .before .before .before .before .before .before .before .before .before .before .before .args) .c) (9, ifstat) ((21, whilestat) ∷ (1, dostat) ∷ (6, forstat) ∷ (16, repeatstat) ∷ (7, functionstat) ∷ (11, (on second (7 ∷ []) localfunction localstat)) ∷ (47, label′) ∷ (0, breakstat) ∷ (8, gotostat) ∷ []) exprstat (sym ((c .before .before .before .before .before .before .before .before .get-next) .ensures) ∙ (c .before .before .before .before .before .before .t) .given .1) ((c .before .before .before .before .match2) .keys8)) (omega (arith, (get-place ((c .before .before .before .before .before .before .before .before .before .before .before .before .args) .stream .now) ((c .before .before .before .before .before .before .before .before .before .before .before .before .args) .c) (sym ((c .before .before .before .before .before .before .before .before .get-next) .ensures) ∙ (c .before .before .before .before .before .before .t) .given .1)))) ((c .before .before .label) .ensures ((c .before .before .before .before .before .before .before .before .before .before .before .before .args) .ranking) (((c .before .before .before .before .before .before .before .before .before .before .before .before .args) .g) - 1))
 
 pub stat-same-length-10 : (t : ℕ) → stat-lts.Need-same-length-10 (
   deep-reads.Asked,
@@ -1774,11 +1680,7 @@ pub stat-returns-12 : (t : ℕ) → stat-lts.Need-returns-12 (
   estat.Post,
 ) (stat-at t) stat.Post
 unfolding statement′
-stat-returns-12 t c =
-    let x = sym ((c .before .before .before .before .before .before .before .before .get-next) .ensures) ∙ (c .before .before .before .before .before .before .t) .given .1 in
-    let p = get-place ((c .before .before .before .before .before .before .before .before .before .before .before .before .args) .stream .now) ((c .before .before .before .before .before .before .before .before .before .before .before .before .args) .c) x in
-    let x2 = got-again ((c .before .before .before .before .before .before .before .before .before .before .before .before .args) .stream .now) ((c .before .before .before .before .before .before .before .before .before .before .before .before .args) .c) x in
-    moved-meets ((c .before .before .before .before .before .before .before .before .before .before .before .before .args) .stream .now) (((c .before .before .before .before .before .before .t) .given .0 .1 .0) .place + 1) (((c .before .before .before .before .before .before .before .before .before .before .before .before .args) .c) .place + 1) ((c .before .before .before .before .before .before .before .before .before .before .before .before .args) .used) 0 ((c .before .before .before .before .before .before .before .before .before .before .before .before .args) .nodes .now) ((c .before .before .stop) .last .1 .0) ((c .before .before .stop) .result) (stats-down ((c .before .before .before .before .before .before .before .before .before .before .before .before .args) .stream .now) ((c .before .before .before .before .before .before .before .before .before .before .before .before .args) .ranking) ((c .before .before .before .before .before .before .before .before .before .before .before .before .args) .g) ((c .before .before .before .before .before .before .before .before .before .before .before .before .args) .c) ((c .before .before .before .before .before .before .before .before .before .if1) .left) ∙ next-out ((c .before .before .before .before .before .before .before .before .before .before .before .before .args) .stream .now) (ranks ((c .before .before .before .before .before .before .before .before .before .before .before .before .args) .ranking)) 0 (readers ((c .before .before .before .before .before .before .before .before .before .before .before .before .args) .stream .now) (ranks ((c .before .before .before .before .before .before .before .before .before .before .before .before .args) .ranking)) (((c .before .before .before .before .before .before .before .before .before .before .before .before .args) .g) - 1)) (hold 0 0 none) again ((c .before .before .before .before .before .before .before .before .before .before .before .before .args) .c) (9 ∷ []) ifstat (on next (21 ∷ []) whilestat (on next (1 ∷ []) dostat (on next (6 ∷ []) forstat (on next (16 ∷ []) repeatstat (on next (7 ∷ []) functionstat (on next (11 ∷ []) (on second (7 ∷ []) localfunction localstat) (on next (47 ∷ []) label′ (on next (0 ∷ []) breakstat (on next (8 ∷ []) gotostat exprstat))))))))) x (ap (λ (z : ℕ). member z (9 ∷ [])) ((c .before .before .before .before .match2) .keys9)) ∙ next-out ((c .before .before .before .before .before .before .before .before .before .before .before .before .args) .stream .now) (ranks ((c .before .before .before .before .before .before .before .before .before .before .before .before .args) .ranking)) 0 (readers ((c .before .before .before .before .before .before .before .before .before .before .before .before .args) .stream .now) (ranks ((c .before .before .before .before .before .before .before .before .before .before .before .before .args) .ranking)) (((c .before .before .before .before .before .before .before .before .before .before .before .before .args) .g) - 1)) (hold 0 0 none) again ((c .before .before .before .before .before .before .t) .given .0 .1 .0) (21 ∷ []) whilestat (on next (1 ∷ []) dostat (on next (6 ∷ []) forstat (on next (16 ∷ []) repeatstat (on next (7 ∷ []) functionstat (on next (11 ∷ []) (on second (7 ∷ []) localfunction localstat) (on next (47 ∷ []) label′ (on next (0 ∷ []) breakstat (on next (8 ∷ []) gotostat exprstat)))))))) x2 (ap (λ (z : ℕ). member z (21 ∷ [])) ((c .before .before .before .before .match2) .keys9)) ∙ next-out ((c .before .before .before .before .before .before .before .before .before .before .before .before .args) .stream .now) (ranks ((c .before .before .before .before .before .before .before .before .before .before .before .before .args) .ranking)) 0 (readers ((c .before .before .before .before .before .before .before .before .before .before .before .before .args) .stream .now) (ranks ((c .before .before .before .before .before .before .before .before .before .before .before .before .args) .ranking)) (((c .before .before .before .before .before .before .before .before .before .before .before .before .args) .g) - 1)) (hold 0 0 none) again ((c .before .before .before .before .before .before .t) .given .0 .1 .0) (1 ∷ []) dostat (on next (6 ∷ []) forstat (on next (16 ∷ []) repeatstat (on next (7 ∷ []) functionstat (on next (11 ∷ []) (on second (7 ∷ []) localfunction localstat) (on next (47 ∷ []) label′ (on next (0 ∷ []) breakstat (on next (8 ∷ []) gotostat exprstat))))))) x2 (ap (λ (z : ℕ). member z (1 ∷ [])) ((c .before .before .before .before .match2) .keys9)) ∙ next-out ((c .before .before .before .before .before .before .before .before .before .before .before .before .args) .stream .now) (ranks ((c .before .before .before .before .before .before .before .before .before .before .before .before .args) .ranking)) 0 (readers ((c .before .before .before .before .before .before .before .before .before .before .before .before .args) .stream .now) (ranks ((c .before .before .before .before .before .before .before .before .before .before .before .before .args) .ranking)) (((c .before .before .before .before .before .before .before .before .before .before .before .before .args) .g) - 1)) (hold 0 0 none) again ((c .before .before .before .before .before .before .t) .given .0 .1 .0) (6 ∷ []) forstat (on next (16 ∷ []) repeatstat (on next (7 ∷ []) functionstat (on next (11 ∷ []) (on second (7 ∷ []) localfunction localstat) (on next (47 ∷ []) label′ (on next (0 ∷ []) breakstat (on next (8 ∷ []) gotostat exprstat)))))) x2 (ap (λ (z : ℕ). member z (6 ∷ [])) ((c .before .before .before .before .match2) .keys9)) ∙ next-out ((c .before .before .before .before .before .before .before .before .before .before .before .before .args) .stream .now) (ranks ((c .before .before .before .before .before .before .before .before .before .before .before .before .args) .ranking)) 0 (readers ((c .before .before .before .before .before .before .before .before .before .before .before .before .args) .stream .now) (ranks ((c .before .before .before .before .before .before .before .before .before .before .before .before .args) .ranking)) (((c .before .before .before .before .before .before .before .before .before .before .before .before .args) .g) - 1)) (hold 0 0 none) again ((c .before .before .before .before .before .before .t) .given .0 .1 .0) (16 ∷ []) repeatstat (on next (7 ∷ []) functionstat (on next (11 ∷ []) (on second (7 ∷ []) localfunction localstat) (on next (47 ∷ []) label′ (on next (0 ∷ []) breakstat (on next (8 ∷ []) gotostat exprstat))))) x2 (ap (λ (z : ℕ). member z (16 ∷ [])) ((c .before .before .before .before .match2) .keys9)) ∙ next-out ((c .before .before .before .before .before .before .before .before .before .before .before .before .args) .stream .now) (ranks ((c .before .before .before .before .before .before .before .before .before .before .before .before .args) .ranking)) 0 (readers ((c .before .before .before .before .before .before .before .before .before .before .before .before .args) .stream .now) (ranks ((c .before .before .before .before .before .before .before .before .before .before .before .before .args) .ranking)) (((c .before .before .before .before .before .before .before .before .before .before .before .before .args) .g) - 1)) (hold 0 0 none) again ((c .before .before .before .before .before .before .t) .given .0 .1 .0) (7 ∷ []) functionstat (on next (11 ∷ []) (on second (7 ∷ []) localfunction localstat) (on next (47 ∷ []) label′ (on next (0 ∷ []) breakstat (on next (8 ∷ []) gotostat exprstat)))) x2 (ap (λ (z : ℕ). member z (7 ∷ [])) ((c .before .before .before .before .match2) .keys9)) ∙ next-out ((c .before .before .before .before .before .before .before .before .before .before .before .before .args) .stream .now) (ranks ((c .before .before .before .before .before .before .before .before .before .before .before .before .args) .ranking)) 0 (readers ((c .before .before .before .before .before .before .before .before .before .before .before .before .args) .stream .now) (ranks ((c .before .before .before .before .before .before .before .before .before .before .before .before .args) .ranking)) (((c .before .before .before .before .before .before .before .before .before .before .before .before .args) .g) - 1)) (hold 0 0 none) again ((c .before .before .before .before .before .before .t) .given .0 .1 .0) (11 ∷ []) (on second (7 ∷ []) localfunction localstat) (on next (47 ∷ []) label′ (on next (0 ∷ []) breakstat (on next (8 ∷ []) gotostat exprstat))) x2 (ap (λ (z : ℕ). member z (11 ∷ [])) ((c .before .before .before .before .match2) .keys9)) ∙ next-out ((c .before .before .before .before .before .before .before .before .before .before .before .before .args) .stream .now) (ranks ((c .before .before .before .before .before .before .before .before .before .before .before .before .args) .ranking)) 0 (readers ((c .before .before .before .before .before .before .before .before .before .before .before .before .args) .stream .now) (ranks ((c .before .before .before .before .before .before .before .before .before .before .before .before .args) .ranking)) (((c .before .before .before .before .before .before .before .before .before .before .before .before .args) .g) - 1)) (hold 0 0 none) again ((c .before .before .before .before .before .before .t) .given .0 .1 .0) (47 ∷ []) label′ (on next (0 ∷ []) breakstat (on next (8 ∷ []) gotostat exprstat)) x2 (ap (λ (z : ℕ). member z (47 ∷ [])) ((c .before .before .before .before .match2) .keys9)) ∙ next-in ((c .before .before .before .before .before .before .before .before .before .before .before .before .args) .stream .now) (ranks ((c .before .before .before .before .before .before .before .before .before .before .before .before .args) .ranking)) 0 (readers ((c .before .before .before .before .before .before .before .before .before .before .before .before .args) .stream .now) (ranks ((c .before .before .before .before .before .before .before .before .before .before .before .before .args) .ranking)) (((c .before .before .before .before .before .before .before .before .before .before .before .before .args) .g) - 1)) (hold 0 0 none) again ((c .before .before .before .before .before .before .t) .given .0 .1 .0) (0 ∷ []) breakstat (on next (8 ∷ []) gotostat exprstat) x2 (ap (λ (z : ℕ). member z (0 ∷ [])) ((c .before .before .before .before .match2) .keys9))) (omega (arith, p)) ((c .before .before .stop) .ensures ((c .before .before .before .before .before .before .before .before .before .before .before .before .args) .ranking) (((c .before .before .before .before .before .before .before .before .before .before .before .before .args) .g) - 1))
+stat-returns-12 t c = moved ((c .before .before .before .before .before .before .before .before .before .before .before .before .args) .stream .now) ((c .before .before .before .before .before .before .before .before .before .before .before .before .args) .used) 0 ((c .before .before .before .before .before .before .before .before .before .before .before .before .args) .nodes .now) ((c .before .before .stop) .last .1 .0) ((c .before .before .stop) .result) (stats-down ((c .before .before .before .before .before .before .before .before .before .before .before .before .args) .stream .now) ((c .before .before .before .before .before .before .before .before .before .before .before .before .args) .ranking) ((c .before .before .before .before .before .before .before .before .before .before .before .before .args) .g) ((c .before .before .before .before .before .before .before .before .before .before .before .before .args) .c) ((c .before .before .before .before .before .before .before .before .before .if1) .left) ∙ by-kind ((c .before .before .before .before .before .before .before .before .before .before .before .before .args) .stream .now) (ranks ((c .before .before .before .before .before .before .before .before .before .before .before .before .args) .ranking)) 0 (readers ((c .before .before .before .before .before .before .before .before .before .before .before .before .args) .stream .now) (ranks ((c .before .before .before .before .before .before .before .before .before .before .before .before .args) .ranking)) (((c .before .before .before .before .before .before .before .before .before .before .before .before .args) .g) - 1)) (hold 0 0 none) again ((c .before .before .before .before .before .before .before .before .before .before .before .before .args) .c) (9, ifstat) ((21, whilestat) ∷ (1, dostat) ∷ (6, forstat) ∷ (16, repeatstat) ∷ (7, functionstat) ∷ (11, (on second (7 ∷ []) localfunction localstat)) ∷ (47, label′) ∷ (0, breakstat) ∷ (8, gotostat) ∷ []) exprstat (sym ((c .before .before .before .before .before .before .before .before .get-next) .ensures) ∙ (c .before .before .before .before .before .before .t) .given .1) ((c .before .before .before .before .match2) .keys9)) (omega (arith, (get-place ((c .before .before .before .before .before .before .before .before .before .before .before .before .args) .stream .now) ((c .before .before .before .before .before .before .before .before .before .before .before .before .args) .c) (sym ((c .before .before .before .before .before .before .before .before .get-next) .ensures) ∙ (c .before .before .before .before .before .before .t) .given .1)))) ((c .before .before .stop) .ensures ((c .before .before .before .before .before .before .before .before .before .before .before .before .args) .ranking) (((c .before .before .before .before .before .before .before .before .before .before .before .before .args) .g) - 1))
 
 pub stat-same-length-11 : (t : ℕ) → stat-lts.Need-same-length-11 (
   deep-reads.Asked,
@@ -1847,11 +1749,7 @@ pub stat-returns-13 : (t : ℕ) → stat-lts.Need-returns-13 (
   estat.Post,
 ) (stat-at t) stat.Post
 unfolding statement′
-stat-returns-13 t c =
-    let x = sym ((c .before .before .before .before .before .before .before .before .get-next) .ensures) ∙ (c .before .before .before .before .before .before .t) .given .1 in
-    let p = get-place ((c .before .before .before .before .before .before .before .before .before .before .before .before .args) .stream .now) ((c .before .before .before .before .before .before .before .before .before .before .before .before .args) .c) x in
-    let x2 = got-again ((c .before .before .before .before .before .before .before .before .before .before .before .before .args) .stream .now) ((c .before .before .before .before .before .before .before .before .before .before .before .before .args) .c) x in
-    moved-meets ((c .before .before .before .before .before .before .before .before .before .before .before .before .args) .stream .now) (((c .before .before .before .before .before .before .t) .given .0 .1 .0) .place + 1) (((c .before .before .before .before .before .before .before .before .before .before .before .before .args) .c) .place + 1) ((c .before .before .before .before .before .before .before .before .before .before .before .before .args) .used) 0 ((c .before .before .before .before .before .before .before .before .before .before .before .before .args) .nodes .now) ((c .before .before .goto) .last .1 .0) ((c .before .before .goto) .result) (stats-down ((c .before .before .before .before .before .before .before .before .before .before .before .before .args) .stream .now) ((c .before .before .before .before .before .before .before .before .before .before .before .before .args) .ranking) ((c .before .before .before .before .before .before .before .before .before .before .before .before .args) .g) ((c .before .before .before .before .before .before .before .before .before .before .before .before .args) .c) ((c .before .before .before .before .before .before .before .before .before .if1) .left) ∙ next-out ((c .before .before .before .before .before .before .before .before .before .before .before .before .args) .stream .now) (ranks ((c .before .before .before .before .before .before .before .before .before .before .before .before .args) .ranking)) 0 (readers ((c .before .before .before .before .before .before .before .before .before .before .before .before .args) .stream .now) (ranks ((c .before .before .before .before .before .before .before .before .before .before .before .before .args) .ranking)) (((c .before .before .before .before .before .before .before .before .before .before .before .before .args) .g) - 1)) (hold 0 0 none) again ((c .before .before .before .before .before .before .before .before .before .before .before .before .args) .c) (9 ∷ []) ifstat (on next (21 ∷ []) whilestat (on next (1 ∷ []) dostat (on next (6 ∷ []) forstat (on next (16 ∷ []) repeatstat (on next (7 ∷ []) functionstat (on next (11 ∷ []) (on second (7 ∷ []) localfunction localstat) (on next (47 ∷ []) label′ (on next (0 ∷ []) breakstat (on next (8 ∷ []) gotostat exprstat))))))))) x (ap (λ (z : ℕ). member z (9 ∷ [])) ((c .before .before .before .before .match2) .keys10)) ∙ next-out ((c .before .before .before .before .before .before .before .before .before .before .before .before .args) .stream .now) (ranks ((c .before .before .before .before .before .before .before .before .before .before .before .before .args) .ranking)) 0 (readers ((c .before .before .before .before .before .before .before .before .before .before .before .before .args) .stream .now) (ranks ((c .before .before .before .before .before .before .before .before .before .before .before .before .args) .ranking)) (((c .before .before .before .before .before .before .before .before .before .before .before .before .args) .g) - 1)) (hold 0 0 none) again ((c .before .before .before .before .before .before .t) .given .0 .1 .0) (21 ∷ []) whilestat (on next (1 ∷ []) dostat (on next (6 ∷ []) forstat (on next (16 ∷ []) repeatstat (on next (7 ∷ []) functionstat (on next (11 ∷ []) (on second (7 ∷ []) localfunction localstat) (on next (47 ∷ []) label′ (on next (0 ∷ []) breakstat (on next (8 ∷ []) gotostat exprstat)))))))) x2 (ap (λ (z : ℕ). member z (21 ∷ [])) ((c .before .before .before .before .match2) .keys10)) ∙ next-out ((c .before .before .before .before .before .before .before .before .before .before .before .before .args) .stream .now) (ranks ((c .before .before .before .before .before .before .before .before .before .before .before .before .args) .ranking)) 0 (readers ((c .before .before .before .before .before .before .before .before .before .before .before .before .args) .stream .now) (ranks ((c .before .before .before .before .before .before .before .before .before .before .before .before .args) .ranking)) (((c .before .before .before .before .before .before .before .before .before .before .before .before .args) .g) - 1)) (hold 0 0 none) again ((c .before .before .before .before .before .before .t) .given .0 .1 .0) (1 ∷ []) dostat (on next (6 ∷ []) forstat (on next (16 ∷ []) repeatstat (on next (7 ∷ []) functionstat (on next (11 ∷ []) (on second (7 ∷ []) localfunction localstat) (on next (47 ∷ []) label′ (on next (0 ∷ []) breakstat (on next (8 ∷ []) gotostat exprstat))))))) x2 (ap (λ (z : ℕ). member z (1 ∷ [])) ((c .before .before .before .before .match2) .keys10)) ∙ next-out ((c .before .before .before .before .before .before .before .before .before .before .before .before .args) .stream .now) (ranks ((c .before .before .before .before .before .before .before .before .before .before .before .before .args) .ranking)) 0 (readers ((c .before .before .before .before .before .before .before .before .before .before .before .before .args) .stream .now) (ranks ((c .before .before .before .before .before .before .before .before .before .before .before .before .args) .ranking)) (((c .before .before .before .before .before .before .before .before .before .before .before .before .args) .g) - 1)) (hold 0 0 none) again ((c .before .before .before .before .before .before .t) .given .0 .1 .0) (6 ∷ []) forstat (on next (16 ∷ []) repeatstat (on next (7 ∷ []) functionstat (on next (11 ∷ []) (on second (7 ∷ []) localfunction localstat) (on next (47 ∷ []) label′ (on next (0 ∷ []) breakstat (on next (8 ∷ []) gotostat exprstat)))))) x2 (ap (λ (z : ℕ). member z (6 ∷ [])) ((c .before .before .before .before .match2) .keys10)) ∙ next-out ((c .before .before .before .before .before .before .before .before .before .before .before .before .args) .stream .now) (ranks ((c .before .before .before .before .before .before .before .before .before .before .before .before .args) .ranking)) 0 (readers ((c .before .before .before .before .before .before .before .before .before .before .before .before .args) .stream .now) (ranks ((c .before .before .before .before .before .before .before .before .before .before .before .before .args) .ranking)) (((c .before .before .before .before .before .before .before .before .before .before .before .before .args) .g) - 1)) (hold 0 0 none) again ((c .before .before .before .before .before .before .t) .given .0 .1 .0) (16 ∷ []) repeatstat (on next (7 ∷ []) functionstat (on next (11 ∷ []) (on second (7 ∷ []) localfunction localstat) (on next (47 ∷ []) label′ (on next (0 ∷ []) breakstat (on next (8 ∷ []) gotostat exprstat))))) x2 (ap (λ (z : ℕ). member z (16 ∷ [])) ((c .before .before .before .before .match2) .keys10)) ∙ next-out ((c .before .before .before .before .before .before .before .before .before .before .before .before .args) .stream .now) (ranks ((c .before .before .before .before .before .before .before .before .before .before .before .before .args) .ranking)) 0 (readers ((c .before .before .before .before .before .before .before .before .before .before .before .before .args) .stream .now) (ranks ((c .before .before .before .before .before .before .before .before .before .before .before .before .args) .ranking)) (((c .before .before .before .before .before .before .before .before .before .before .before .before .args) .g) - 1)) (hold 0 0 none) again ((c .before .before .before .before .before .before .t) .given .0 .1 .0) (7 ∷ []) functionstat (on next (11 ∷ []) (on second (7 ∷ []) localfunction localstat) (on next (47 ∷ []) label′ (on next (0 ∷ []) breakstat (on next (8 ∷ []) gotostat exprstat)))) x2 (ap (λ (z : ℕ). member z (7 ∷ [])) ((c .before .before .before .before .match2) .keys10)) ∙ next-out ((c .before .before .before .before .before .before .before .before .before .before .before .before .args) .stream .now) (ranks ((c .before .before .before .before .before .before .before .before .before .before .before .before .args) .ranking)) 0 (readers ((c .before .before .before .before .before .before .before .before .before .before .before .before .args) .stream .now) (ranks ((c .before .before .before .before .before .before .before .before .before .before .before .before .args) .ranking)) (((c .before .before .before .before .before .before .before .before .before .before .before .before .args) .g) - 1)) (hold 0 0 none) again ((c .before .before .before .before .before .before .t) .given .0 .1 .0) (11 ∷ []) (on second (7 ∷ []) localfunction localstat) (on next (47 ∷ []) label′ (on next (0 ∷ []) breakstat (on next (8 ∷ []) gotostat exprstat))) x2 (ap (λ (z : ℕ). member z (11 ∷ [])) ((c .before .before .before .before .match2) .keys10)) ∙ next-out ((c .before .before .before .before .before .before .before .before .before .before .before .before .args) .stream .now) (ranks ((c .before .before .before .before .before .before .before .before .before .before .before .before .args) .ranking)) 0 (readers ((c .before .before .before .before .before .before .before .before .before .before .before .before .args) .stream .now) (ranks ((c .before .before .before .before .before .before .before .before .before .before .before .before .args) .ranking)) (((c .before .before .before .before .before .before .before .before .before .before .before .before .args) .g) - 1)) (hold 0 0 none) again ((c .before .before .before .before .before .before .t) .given .0 .1 .0) (47 ∷ []) label′ (on next (0 ∷ []) breakstat (on next (8 ∷ []) gotostat exprstat)) x2 (ap (λ (z : ℕ). member z (47 ∷ [])) ((c .before .before .before .before .match2) .keys10)) ∙ next-out ((c .before .before .before .before .before .before .before .before .before .before .before .before .args) .stream .now) (ranks ((c .before .before .before .before .before .before .before .before .before .before .before .before .args) .ranking)) 0 (readers ((c .before .before .before .before .before .before .before .before .before .before .before .before .args) .stream .now) (ranks ((c .before .before .before .before .before .before .before .before .before .before .before .before .args) .ranking)) (((c .before .before .before .before .before .before .before .before .before .before .before .before .args) .g) - 1)) (hold 0 0 none) again ((c .before .before .before .before .before .before .t) .given .0 .1 .0) (0 ∷ []) breakstat (on next (8 ∷ []) gotostat exprstat) x2 (ap (λ (z : ℕ). member z (0 ∷ [])) ((c .before .before .before .before .match2) .keys10)) ∙ next-in ((c .before .before .before .before .before .before .before .before .before .before .before .before .args) .stream .now) (ranks ((c .before .before .before .before .before .before .before .before .before .before .before .before .args) .ranking)) 0 (readers ((c .before .before .before .before .before .before .before .before .before .before .before .before .args) .stream .now) (ranks ((c .before .before .before .before .before .before .before .before .before .before .before .before .args) .ranking)) (((c .before .before .before .before .before .before .before .before .before .before .before .before .args) .g) - 1)) (hold 0 0 none) again ((c .before .before .before .before .before .before .t) .given .0 .1 .0) (8 ∷ []) gotostat exprstat x2 (ap (λ (z : ℕ). member z (8 ∷ [])) ((c .before .before .before .before .match2) .keys10))) (omega (arith, p)) ((c .before .before .goto) .ensures ((c .before .before .before .before .before .before .before .before .before .before .before .before .args) .ranking) (((c .before .before .before .before .before .before .before .before .before .before .before .before .args) .g) - 1))
+stat-returns-13 t c = moved ((c .before .before .before .before .before .before .before .before .before .before .before .before .args) .stream .now) ((c .before .before .before .before .before .before .before .before .before .before .before .before .args) .used) 0 ((c .before .before .before .before .before .before .before .before .before .before .before .before .args) .nodes .now) ((c .before .before .goto) .last .1 .0) ((c .before .before .goto) .result) (stats-down ((c .before .before .before .before .before .before .before .before .before .before .before .before .args) .stream .now) ((c .before .before .before .before .before .before .before .before .before .before .before .before .args) .ranking) ((c .before .before .before .before .before .before .before .before .before .before .before .before .args) .g) ((c .before .before .before .before .before .before .before .before .before .before .before .before .args) .c) ((c .before .before .before .before .before .before .before .before .before .if1) .left) ∙ by-kind ((c .before .before .before .before .before .before .before .before .before .before .before .before .args) .stream .now) (ranks ((c .before .before .before .before .before .before .before .before .before .before .before .before .args) .ranking)) 0 (readers ((c .before .before .before .before .before .before .before .before .before .before .before .before .args) .stream .now) (ranks ((c .before .before .before .before .before .before .before .before .before .before .before .before .args) .ranking)) (((c .before .before .before .before .before .before .before .before .before .before .before .before .args) .g) - 1)) (hold 0 0 none) again ((c .before .before .before .before .before .before .before .before .before .before .before .before .args) .c) (9, ifstat) ((21, whilestat) ∷ (1, dostat) ∷ (6, forstat) ∷ (16, repeatstat) ∷ (7, functionstat) ∷ (11, (on second (7 ∷ []) localfunction localstat)) ∷ (47, label′) ∷ (0, breakstat) ∷ (8, gotostat) ∷ []) exprstat (sym ((c .before .before .before .before .before .before .before .before .get-next) .ensures) ∙ (c .before .before .before .before .before .before .t) .given .1) ((c .before .before .before .before .match2) .keys10)) (omega (arith, (get-place ((c .before .before .before .before .before .before .before .before .before .before .before .before .args) .stream .now) ((c .before .before .before .before .before .before .before .before .before .before .before .before .args) .c) (sym ((c .before .before .before .before .before .before .before .before .get-next) .ensures) ∙ (c .before .before .before .before .before .before .t) .given .1)))) ((c .before .before .goto) .ensures ((c .before .before .before .before .before .before .before .before .before .before .before .before .args) .ranking) (((c .before .before .before .before .before .before .before .before .before .before .before .before .args) .g) - 1))
 
 pub stat-same-length-12 : (t : ℕ) → stat-lts.Need-same-length-12 (
   deep-reads.Asked,
@@ -1920,8 +1818,4 @@ pub stat-returns-14 : (t : ℕ) → stat-lts.Need-returns-14 (
   estat.Post,
 ) (stat-at t) stat.Post
 unfolding statement′
-stat-returns-14 t c =
-    let x = sym ((c .before .before .before .before .before .before .before .before .get-next) .ensures) ∙ (c .before .before .before .before .before .before .t) .given .1 in
-    let p = get-place ((c .before .before .before .before .before .before .before .before .before .before .before .before .args) .stream .now) ((c .before .before .before .before .before .before .before .before .before .before .before .before .args) .c) x in
-    let x2 = got-again ((c .before .before .before .before .before .before .before .before .before .before .before .before .args) .stream .now) ((c .before .before .before .before .before .before .before .before .before .before .before .before .args) .c) x in
-    moved-meets ((c .before .before .before .before .before .before .before .before .before .before .before .before .args) .stream .now) (((c .before .before .before .before .before .before .t) .given .0 .1 .0) .place + 1) (((c .before .before .before .before .before .before .before .before .before .before .before .before .args) .c) .place + 1) ((c .before .before .before .before .before .before .before .before .before .before .before .before .args) .used) 0 ((c .before .before .before .before .before .before .before .before .before .before .before .before .args) .nodes .now) ((c .before .before .estat) .last .1 .0) ((c .before .before .estat) .result) (stats-down ((c .before .before .before .before .before .before .before .before .before .before .before .before .args) .stream .now) ((c .before .before .before .before .before .before .before .before .before .before .before .before .args) .ranking) ((c .before .before .before .before .before .before .before .before .before .before .before .before .args) .g) ((c .before .before .before .before .before .before .before .before .before .before .before .before .args) .c) ((c .before .before .before .before .before .before .before .before .before .if1) .left) ∙ next-out ((c .before .before .before .before .before .before .before .before .before .before .before .before .args) .stream .now) (ranks ((c .before .before .before .before .before .before .before .before .before .before .before .before .args) .ranking)) 0 (readers ((c .before .before .before .before .before .before .before .before .before .before .before .before .args) .stream .now) (ranks ((c .before .before .before .before .before .before .before .before .before .before .before .before .args) .ranking)) (((c .before .before .before .before .before .before .before .before .before .before .before .before .args) .g) - 1)) (hold 0 0 none) again ((c .before .before .before .before .before .before .before .before .before .before .before .before .args) .c) (9 ∷ []) ifstat (on next (21 ∷ []) whilestat (on next (1 ∷ []) dostat (on next (6 ∷ []) forstat (on next (16 ∷ []) repeatstat (on next (7 ∷ []) functionstat (on next (11 ∷ []) (on second (7 ∷ []) localfunction localstat) (on next (47 ∷ []) label′ (on next (0 ∷ []) breakstat (on next (8 ∷ []) gotostat exprstat))))))))) x (not-among [] ((c .before .before .before .before .match2) .rest .0 .0 .0 .0 .0 .0 .0 .0 .0 .1) refl) ∙ next-out ((c .before .before .before .before .before .before .before .before .before .before .before .before .args) .stream .now) (ranks ((c .before .before .before .before .before .before .before .before .before .before .before .before .args) .ranking)) 0 (readers ((c .before .before .before .before .before .before .before .before .before .before .before .before .args) .stream .now) (ranks ((c .before .before .before .before .before .before .before .before .before .before .before .before .args) .ranking)) (((c .before .before .before .before .before .before .before .before .before .before .before .before .args) .g) - 1)) (hold 0 0 none) again ((c .before .before .before .before .before .before .t) .given .0 .1 .0) (21 ∷ []) whilestat (on next (1 ∷ []) dostat (on next (6 ∷ []) forstat (on next (16 ∷ []) repeatstat (on next (7 ∷ []) functionstat (on next (11 ∷ []) (on second (7 ∷ []) localfunction localstat) (on next (47 ∷ []) label′ (on next (0 ∷ []) breakstat (on next (8 ∷ []) gotostat exprstat)))))))) x2 (not-among [] ((c .before .before .before .before .match2) .rest .0 .0 .0 .0 .0 .0 .0 .0 .1) refl) ∙ next-out ((c .before .before .before .before .before .before .before .before .before .before .before .before .args) .stream .now) (ranks ((c .before .before .before .before .before .before .before .before .before .before .before .before .args) .ranking)) 0 (readers ((c .before .before .before .before .before .before .before .before .before .before .before .before .args) .stream .now) (ranks ((c .before .before .before .before .before .before .before .before .before .before .before .before .args) .ranking)) (((c .before .before .before .before .before .before .before .before .before .before .before .before .args) .g) - 1)) (hold 0 0 none) again ((c .before .before .before .before .before .before .t) .given .0 .1 .0) (1 ∷ []) dostat (on next (6 ∷ []) forstat (on next (16 ∷ []) repeatstat (on next (7 ∷ []) functionstat (on next (11 ∷ []) (on second (7 ∷ []) localfunction localstat) (on next (47 ∷ []) label′ (on next (0 ∷ []) breakstat (on next (8 ∷ []) gotostat exprstat))))))) x2 (not-among [] ((c .before .before .before .before .match2) .rest .0 .0 .0 .0 .0 .0 .0 .1) refl) ∙ next-out ((c .before .before .before .before .before .before .before .before .before .before .before .before .args) .stream .now) (ranks ((c .before .before .before .before .before .before .before .before .before .before .before .before .args) .ranking)) 0 (readers ((c .before .before .before .before .before .before .before .before .before .before .before .before .args) .stream .now) (ranks ((c .before .before .before .before .before .before .before .before .before .before .before .before .args) .ranking)) (((c .before .before .before .before .before .before .before .before .before .before .before .before .args) .g) - 1)) (hold 0 0 none) again ((c .before .before .before .before .before .before .t) .given .0 .1 .0) (6 ∷ []) forstat (on next (16 ∷ []) repeatstat (on next (7 ∷ []) functionstat (on next (11 ∷ []) (on second (7 ∷ []) localfunction localstat) (on next (47 ∷ []) label′ (on next (0 ∷ []) breakstat (on next (8 ∷ []) gotostat exprstat)))))) x2 (not-among [] ((c .before .before .before .before .match2) .rest .0 .0 .0 .0 .0 .0 .1) refl) ∙ next-out ((c .before .before .before .before .before .before .before .before .before .before .before .before .args) .stream .now) (ranks ((c .before .before .before .before .before .before .before .before .before .before .before .before .args) .ranking)) 0 (readers ((c .before .before .before .before .before .before .before .before .before .before .before .before .args) .stream .now) (ranks ((c .before .before .before .before .before .before .before .before .before .before .before .before .args) .ranking)) (((c .before .before .before .before .before .before .before .before .before .before .before .before .args) .g) - 1)) (hold 0 0 none) again ((c .before .before .before .before .before .before .t) .given .0 .1 .0) (16 ∷ []) repeatstat (on next (7 ∷ []) functionstat (on next (11 ∷ []) (on second (7 ∷ []) localfunction localstat) (on next (47 ∷ []) label′ (on next (0 ∷ []) breakstat (on next (8 ∷ []) gotostat exprstat))))) x2 (not-among [] ((c .before .before .before .before .match2) .rest .0 .0 .0 .0 .0 .1) refl) ∙ next-out ((c .before .before .before .before .before .before .before .before .before .before .before .before .args) .stream .now) (ranks ((c .before .before .before .before .before .before .before .before .before .before .before .before .args) .ranking)) 0 (readers ((c .before .before .before .before .before .before .before .before .before .before .before .before .args) .stream .now) (ranks ((c .before .before .before .before .before .before .before .before .before .before .before .before .args) .ranking)) (((c .before .before .before .before .before .before .before .before .before .before .before .before .args) .g) - 1)) (hold 0 0 none) again ((c .before .before .before .before .before .before .t) .given .0 .1 .0) (7 ∷ []) functionstat (on next (11 ∷ []) (on second (7 ∷ []) localfunction localstat) (on next (47 ∷ []) label′ (on next (0 ∷ []) breakstat (on next (8 ∷ []) gotostat exprstat)))) x2 (not-among [] ((c .before .before .before .before .match2) .rest .0 .0 .0 .0 .1) refl) ∙ next-out ((c .before .before .before .before .before .before .before .before .before .before .before .before .args) .stream .now) (ranks ((c .before .before .before .before .before .before .before .before .before .before .before .before .args) .ranking)) 0 (readers ((c .before .before .before .before .before .before .before .before .before .before .before .before .args) .stream .now) (ranks ((c .before .before .before .before .before .before .before .before .before .before .before .before .args) .ranking)) (((c .before .before .before .before .before .before .before .before .before .before .before .before .args) .g) - 1)) (hold 0 0 none) again ((c .before .before .before .before .before .before .t) .given .0 .1 .0) (11 ∷ []) (on second (7 ∷ []) localfunction localstat) (on next (47 ∷ []) label′ (on next (0 ∷ []) breakstat (on next (8 ∷ []) gotostat exprstat))) x2 (not-among [] ((c .before .before .before .before .match2) .rest .0 .0 .0 .1) refl) ∙ next-out ((c .before .before .before .before .before .before .before .before .before .before .before .before .args) .stream .now) (ranks ((c .before .before .before .before .before .before .before .before .before .before .before .before .args) .ranking)) 0 (readers ((c .before .before .before .before .before .before .before .before .before .before .before .before .args) .stream .now) (ranks ((c .before .before .before .before .before .before .before .before .before .before .before .before .args) .ranking)) (((c .before .before .before .before .before .before .before .before .before .before .before .before .args) .g) - 1)) (hold 0 0 none) again ((c .before .before .before .before .before .before .t) .given .0 .1 .0) (47 ∷ []) label′ (on next (0 ∷ []) breakstat (on next (8 ∷ []) gotostat exprstat)) x2 (not-among [] ((c .before .before .before .before .match2) .rest .0 .0 .1) refl) ∙ next-out ((c .before .before .before .before .before .before .before .before .before .before .before .before .args) .stream .now) (ranks ((c .before .before .before .before .before .before .before .before .before .before .before .before .args) .ranking)) 0 (readers ((c .before .before .before .before .before .before .before .before .before .before .before .before .args) .stream .now) (ranks ((c .before .before .before .before .before .before .before .before .before .before .before .before .args) .ranking)) (((c .before .before .before .before .before .before .before .before .before .before .before .before .args) .g) - 1)) (hold 0 0 none) again ((c .before .before .before .before .before .before .t) .given .0 .1 .0) (0 ∷ []) breakstat (on next (8 ∷ []) gotostat exprstat) x2 (not-among [] ((c .before .before .before .before .match2) .rest .0 .1) refl) ∙ next-out ((c .before .before .before .before .before .before .before .before .before .before .before .before .args) .stream .now) (ranks ((c .before .before .before .before .before .before .before .before .before .before .before .before .args) .ranking)) 0 (readers ((c .before .before .before .before .before .before .before .before .before .before .before .before .args) .stream .now) (ranks ((c .before .before .before .before .before .before .before .before .before .before .before .before .args) .ranking)) (((c .before .before .before .before .before .before .before .before .before .before .before .before .args) .g) - 1)) (hold 0 0 none) again ((c .before .before .before .before .before .before .t) .given .0 .1 .0) (8 ∷ []) gotostat exprstat x2 (not-among [] ((c .before .before .before .before .match2) .rest .1) refl)) (omega (arith, p)) ((c .before .before .estat) .ensures)
+stat-returns-14 t c = moved ((c .before .before .before .before .before .before .before .before .before .before .before .before .args) .stream .now) ((c .before .before .before .before .before .before .before .before .before .before .before .before .args) .used) 0 ((c .before .before .before .before .before .before .before .before .before .before .before .before .args) .nodes .now) ((c .before .before .estat) .last .1 .0) ((c .before .before .estat) .result) (stats-down ((c .before .before .before .before .before .before .before .before .before .before .before .before .args) .stream .now) ((c .before .before .before .before .before .before .before .before .before .before .before .before .args) .ranking) ((c .before .before .before .before .before .before .before .before .before .before .before .before .args) .g) ((c .before .before .before .before .before .before .before .before .before .before .before .before .args) .c) ((c .before .before .before .before .before .before .before .before .before .if1) .left) ∙ by-others ((c .before .before .before .before .before .before .before .before .before .before .before .before .args) .stream .now) (ranks ((c .before .before .before .before .before .before .before .before .before .before .before .before .args) .ranking)) 0 (readers ((c .before .before .before .before .before .before .before .before .before .before .before .before .args) .stream .now) (ranks ((c .before .before .before .before .before .before .before .before .before .before .before .before .args) .ranking)) (((c .before .before .before .before .before .before .before .before .before .before .before .before .args) .g) - 1)) (hold 0 0 none) again ((c .before .before .before .before .before .before .before .before .before .before .before .before .args) .c) (9, ifstat) ((21, whilestat) ∷ (1, dostat) ∷ (6, forstat) ∷ (16, repeatstat) ∷ (7, functionstat) ∷ (11, (on second (7 ∷ []) localfunction localstat)) ∷ (47, label′) ∷ (0, breakstat) ∷ (8, gotostat) ∷ []) exprstat (sym ((c .before .before .before .before .before .before .before .before .get-next) .ensures) ∙ (c .before .before .before .before .before .before .t) .given .1) ((c .before .before .before .before .match2) .rest .0 .0 .0 .0 .0 .0 .0 .0 .0 .1) ((c .before .before .before .before .match2) .rest .0 .0 .0 .0 .0 .0 .0 .0 .1) ((c .before .before .before .before .match2) .rest .0 .0 .0 .0 .0 .0 .0 .1) ((c .before .before .before .before .match2) .rest .0 .0 .0 .0 .0 .0 .1) ((c .before .before .before .before .match2) .rest .0 .0 .0 .0 .0 .1) ((c .before .before .before .before .match2) .rest .0 .0 .0 .0 .1) ((c .before .before .before .before .match2) .rest .0 .0 .0 .1) ((c .before .before .before .before .match2) .rest .0 .0 .1) ((c .before .before .before .before .match2) .rest .0 .1) ((c .before .before .before .before .match2) .rest .1)) (omega (arith, (get-place ((c .before .before .before .before .before .before .before .before .before .before .before .before .args) .stream .now) ((c .before .before .before .before .before .before .before .before .before .before .before .before .args) .c) (sym ((c .before .before .before .before .before .before .before .before .get-next) .ensures) ∙ (c .before .before .before .before .before .before .t) .given .1)))) ((c .before .before .estat) .ensures)

@@ -19,9 +19,8 @@ use Rattle.grammar.specs.Reading.{read, hold, wrap, loop}
 use Rattle.grammar.specs.Levels.{readers}
 use Rattle.grammar.specs.Term.{unlined}
 use Rattle.stream.proofs.Words.{few}
-use Rattle.parser.proofs.Steps.{taken}
-use Rattle.parser.proofs.Kit.{alter, revalue, kept, stop, past, both, over}
-use Rattle.parser.proofs.Looks.{settled, exps-deep, exps-down}
+use Rattle.parser.proofs.Kit.{kept, ready-at, alter, revalue, stop, past, both, over}
+use Rattle.parser.proofs.Around.{settled, exps-deep, exps-down}
 use Rattle.grammar.specs.Productions.{explist, retstat, block as block′, parlist, funcbody, field as field′, table as table′, args as args′, suffix as suffix′, primary as primary′, suffixed as suffixed′, simple as simple′, head as head′, tails as tails′, expression}
 
 pub sub-deep-requires : (t : ℕ) → sub-lts.Need-deep-requires (
@@ -132,7 +131,7 @@ pub sub-tails-requires : (t : ℕ) → sub-lts.Need-tails-requires (
 ) (sub-at t) sub.Post
 sub-tails-requires t c κs =
     let f1 = rw ((c .before .before .d) .given .1) at ((c .before .before .before .before .before .before .head) .ensures) in
-    (omega (arith, (c .before .before .before .before .before .before .before .before .before .before .before .pre) .0, (c .before .before .before .before .before .before .before .before .if1) .left), record { formed = ((c .before .before .before .before .before .before .before .before .before .before .before .pre) .1) .formed; at = f1 .at; room = f1 .room })
+    (omega (arith, (c .before .before .before .before .before .before .before .before .before .before .before .pre) .0, (c .before .before .before .before .before .before .before .before .if1) .left), ready-at (((c .before .before .before .before .before .before .before .before .before .before .before .pre) .1) .formed) f1 (omega arith))
 
 pub sub-enum-known-e-2 : (t : ℕ) → sub-lts.Need-enum-known-e-2 (
   deep-reads.Asked,

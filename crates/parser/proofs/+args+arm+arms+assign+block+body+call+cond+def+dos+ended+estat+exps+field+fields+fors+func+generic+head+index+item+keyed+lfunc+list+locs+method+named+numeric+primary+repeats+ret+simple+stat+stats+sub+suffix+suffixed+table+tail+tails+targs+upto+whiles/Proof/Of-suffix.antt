@@ -12,7 +12,6 @@ use Rattle.parser.proofs.tagged.Reads as tagged-reads
 use Rattle.parser.proofs.+args+arm+arms+assign+block+body+call+cond+def+dos+ended+estat+exps+field+fields+fors+func+generic+head+index+item+keyed+lfunc+list+locs+method+named+numeric+primary+repeats+ret+simple+stat+stats+sub+suffix+suffixed+table+tail+tails+targs+upto+whiles.{}
 use Rattle.parser.proofs.+args+arm+arms+assign+block+body+call+cond+def+dos+ended+estat+exps+field+fields+fors+func+generic+head+index+item+keyed+lfunc+list+locs+method+named+numeric+primary+repeats+ret+simple+stat+stats+sub+suffix+suffixed+table+tail+tails+targs+upto+whiles.Proof.Levels.{call-below, index-below, method-below, suffix-at}
 use mathlib.Core.Path.{refl, sym, _∙_}
-use mathlib.Core.List.{[], _∷_}
 use Prim.Native.Nat.{ℕ, _+_, _-_}
 use native.Mathlib.Omega.{arith}
 use Rattle.grammar.specs.Reading.{read, last}
@@ -20,10 +19,11 @@ use Rattle.grammar.specs.Term.{unlined}
 use Rattle.grammar.specs.Term.{any, weigh, _⨾_}
 use Rattle.grammar.specs.Productions.{word, named}
 use Rattle.parser.specs.Contract.{says}
+use Rattle.parser.proofs.Among.{among, nor}
 use Rattle.parser.proofs.Kit.{kept}
+use Rattle.parser.proofs.Suffixes.{dotted-is, index-is, method-is, call-is, suffix-part}
 use Rattle.grammar.specs.Productions.{expr, args as args′}
 use Rattle.grammar.specs.Grammar.{first-suffix}
-use Rattle.parser.proofs.Tags.{also-out, alike, dotted-is, index-is, method-is, call-is, suffix-part}
 
 pub suffix-field-name-requires : (t : ℕ) → suffix-lts.Need-field-name-requires (
   field-name-reads.Asked,
@@ -222,7 +222,7 @@ pub suffix-returns : (t : ℕ) → suffix-lts.Need-returns (
 unfolding read
 suffix-returns t c =
     let q = sym ((c .before .before .before .before .before .before .before .before .pre) .1 .1) ∙ (c .before .before .before .before .before .match) .keys1 in
-    suffix-part ((c .before .before .before .before .before .before .before .before .args) .stream .now) (((c .before .before .before .before .before .before .before .before .args) .c) .place + 1) ((c .before .before .before .before .before .before .before .before .args) .used) 0 ((c .before .before .before .before .before .before .before .before .args) .nodes .now) ((c .before .before .before .field-name) .last .1 .0) ((c .before .before .before .before .before .before .before .before .args) .kind) 32 unlined (((c .before .before .before .before .before .before .before .before .args) .c) .place) (says ((c .before .before .before .before .before .before .before .before .args) .stream .now) ((c .before .before .before .before .before .before .before .before .args) .ranking) ((c .before .before .before .before .before .before .before .before .args) .g) (any ⨾ named ⨾ weigh) ((c .before .before .before .before .before .before .before .before .args) .c)) (alike first-suffix ((c .before .before .before .before .before .match) .keys1)) (dotted-is ((c .before .before .before .before .before .before .before .before .args) .stream .now) ((c .before .before .before .before .before .before .before .before .args) .ranking) ((c .before .before .before .before .before .before .before .before .args) .g) ((c .before .before .before .before .before .before .before .before .args) .c) q) ((c .before .before .before .field-name) .result) ((c .before .before .before .field-name) .ensures ((c .before .before .before .before .before .before .before .before .args) .ranking) ((c .before .before .before .before .before .before .before .before .args) .g)) ((c .tagged) .result) ((c .tagged) .ensures)
+    suffix-part ((c .before .before .before .before .before .before .before .before .args) .stream .now) (((c .before .before .before .before .before .before .before .before .args) .c) .place + 1) ((c .before .before .before .before .before .before .before .before .args) .used) 0 ((c .before .before .before .before .before .before .before .before .args) .nodes .now) ((c .before .before .before .field-name) .last .1 .0) ((c .before .before .before .before .before .before .before .before .args) .kind) 32 unlined (((c .before .before .before .before .before .before .before .before .args) .c) .place) (says ((c .before .before .before .before .before .before .before .before .args) .stream .now) ((c .before .before .before .before .before .before .before .before .args) .ranking) ((c .before .before .before .before .before .before .before .before .args) .g) (any ⨾ named ⨾ weigh) ((c .before .before .before .before .before .before .before .before .args) .c)) (among first-suffix ((c .before .before .before .before .before .match) .keys1)) (dotted-is ((c .before .before .before .before .before .before .before .before .args) .stream .now) ((c .before .before .before .before .before .before .before .before .args) .ranking) ((c .before .before .before .before .before .before .before .before .args) .g) ((c .before .before .before .before .before .before .before .before .args) .c) q) ((c .before .before .before .field-name) .result) ((c .before .before .before .field-name) .ensures ((c .before .before .before .before .before .before .before .before .args) .ranking) ((c .before .before .before .before .before .before .before .before .args) .g)) ((c .tagged) .result) ((c .tagged) .ensures)
 
 pub suffix-same-length-2 : (t : ℕ) → suffix-lts.Need-same-length-2 (
   field-name-reads.Asked,
@@ -253,7 +253,7 @@ pub suffix-returns-2 : (t : ℕ) → suffix-lts.Need-returns-2 (
 unfolding read
 suffix-returns-2 t c =
     let q = sym ((c .before .before .before .before .before .before .before .before .pre) .1 .1) ∙ (c .before .before .before .before .before .match) .keys2 in
-    suffix-part ((c .before .before .before .before .before .before .before .before .args) .stream .now) (((c .before .before .before .before .before .before .before .before .args) .c) .place + 1) ((c .before .before .before .before .before .before .before .before .args) .used) 0 ((c .before .before .before .before .before .before .before .before .args) .nodes .now) ((c .before .before .before .index) .last .1 .0) ((c .before .before .before .before .before .before .before .before .args) .kind) 33 unlined (((c .before .before .before .before .before .before .before .before .args) .c) .place) (says ((c .before .before .before .before .before .before .before .before .args) .stream .now) ((c .before .before .before .before .before .before .before .before .args) .ranking) ((c .before .before .before .before .before .before .before .before .args) .g) (any ⨾ expr ⨾ word 52) ((c .before .before .before .before .before .before .before .before .args) .c)) (alike first-suffix ((c .before .before .before .before .before .match) .keys2)) (index-is ((c .before .before .before .before .before .before .before .before .args) .stream .now) ((c .before .before .before .before .before .before .before .before .args) .ranking) ((c .before .before .before .before .before .before .before .before .args) .g) ((c .before .before .before .before .before .before .before .before .args) .c) q) ((c .before .before .before .index) .result) ((c .before .before .before .index) .ensures) ((c .tagged2) .result) ((c .tagged2) .ensures)
+    suffix-part ((c .before .before .before .before .before .before .before .before .args) .stream .now) (((c .before .before .before .before .before .before .before .before .args) .c) .place + 1) ((c .before .before .before .before .before .before .before .before .args) .used) 0 ((c .before .before .before .before .before .before .before .before .args) .nodes .now) ((c .before .before .before .index) .last .1 .0) ((c .before .before .before .before .before .before .before .before .args) .kind) 33 unlined (((c .before .before .before .before .before .before .before .before .args) .c) .place) (says ((c .before .before .before .before .before .before .before .before .args) .stream .now) ((c .before .before .before .before .before .before .before .before .args) .ranking) ((c .before .before .before .before .before .before .before .before .args) .g) (any ⨾ expr ⨾ word 52) ((c .before .before .before .before .before .before .before .before .args) .c)) (among first-suffix ((c .before .before .before .before .before .match) .keys2)) (index-is ((c .before .before .before .before .before .before .before .before .args) .stream .now) ((c .before .before .before .before .before .before .before .before .args) .ranking) ((c .before .before .before .before .before .before .before .before .args) .g) ((c .before .before .before .before .before .before .before .before .args) .c) q) ((c .before .before .before .index) .result) ((c .before .before .before .index) .ensures) ((c .tagged2) .result) ((c .tagged2) .ensures)
 
 pub suffix-same-length-3 : (t : ℕ) → suffix-lts.Need-same-length-3 (
   field-name-reads.Asked,
@@ -284,7 +284,7 @@ pub suffix-returns-3 : (t : ℕ) → suffix-lts.Need-returns-3 (
 unfolding read
 suffix-returns-3 t c =
     let q = sym ((c .before .before .before .before .before .before .before .before .pre) .1 .1) ∙ (c .before .before .before .before .before .match) .keys3 in
-    suffix-part ((c .before .before .before .before .before .before .before .before .args) .stream .now) (((c .before .before .before .before .before .before .before .before .args) .c) .place + 1) ((c .before .before .before .before .before .before .before .before .args) .used) 0 ((c .before .before .before .before .before .before .before .before .args) .nodes .now) ((c .before .before .before .method) .last .1 .0) ((c .before .before .before .before .before .before .before .before .args) .kind) 35 unlined (((c .before .before .before .before .before .before .before .before .args) .c) .place) (says ((c .before .before .before .before .before .before .before .before .args) .stream .now) ((c .before .before .before .before .before .before .before .before .args) .ranking) ((c .before .before .before .before .before .before .before .before .args) .g) (any ⨾ named ⨾ weigh ⨾ args′ 0) ((c .before .before .before .before .before .before .before .before .args) .c)) (alike first-suffix ((c .before .before .before .before .before .match) .keys3)) (method-is ((c .before .before .before .before .before .before .before .before .args) .stream .now) ((c .before .before .before .before .before .before .before .before .args) .ranking) ((c .before .before .before .before .before .before .before .before .args) .g) ((c .before .before .before .before .before .before .before .before .args) .c) q) ((c .before .before .before .method) .result) ((c .before .before .before .method) .ensures) ((c .tagged3) .result) ((c .tagged3) .ensures)
+    suffix-part ((c .before .before .before .before .before .before .before .before .args) .stream .now) (((c .before .before .before .before .before .before .before .before .args) .c) .place + 1) ((c .before .before .before .before .before .before .before .before .args) .used) 0 ((c .before .before .before .before .before .before .before .before .args) .nodes .now) ((c .before .before .before .method) .last .1 .0) ((c .before .before .before .before .before .before .before .before .args) .kind) 35 unlined (((c .before .before .before .before .before .before .before .before .args) .c) .place) (says ((c .before .before .before .before .before .before .before .before .args) .stream .now) ((c .before .before .before .before .before .before .before .before .args) .ranking) ((c .before .before .before .before .before .before .before .before .args) .g) (any ⨾ named ⨾ weigh ⨾ args′ 0) ((c .before .before .before .before .before .before .before .before .args) .c)) (among first-suffix ((c .before .before .before .before .before .match) .keys3)) (method-is ((c .before .before .before .before .before .before .before .before .args) .stream .now) ((c .before .before .before .before .before .before .before .before .args) .ranking) ((c .before .before .before .before .before .before .before .before .args) .g) ((c .before .before .before .before .before .before .before .before .args) .c) q) ((c .before .before .before .method) .result) ((c .before .before .before .method) .ensures) ((c .tagged3) .result) ((c .tagged3) .ensures)
 
 pub suffix-same-length-4 : (t : ℕ) → suffix-lts.Need-same-length-4 (
   field-name-reads.Asked,
@@ -315,7 +315,7 @@ pub suffix-returns-4 : (t : ℕ) → suffix-lts.Need-returns-4 (
 unfolding read
 suffix-returns-4 t c =
     let q = sym ((c .before .before .before .before .before .before .before .before .pre) .1 .1) ∙ (c .before .before .before .before .before .match) .keys4 in
-    suffix-part ((c .before .before .before .before .before .before .before .before .args) .stream .now) (((c .before .before .before .before .before .before .before .before .args) .c) .place + 1) ((c .before .before .before .before .before .before .before .before .args) .used) 0 ((c .before .before .before .before .before .before .before .before .args) .nodes .now) ((c .before .before .before .call) .last .1 .0) ((c .before .before .before .before .before .before .before .before .args) .kind) 34 unlined (((c .before .before .before .before .before .before .before .before .args) .c) .place) (says ((c .before .before .before .before .before .before .before .before .args) .stream .now) ((c .before .before .before .before .before .before .before .before .args) .ranking) ((c .before .before .before .before .before .before .before .before .args) .g) (args′ 1) ((c .before .before .before .before .before .before .before .before .args) .c)) (alike first-suffix ((c .before .before .before .before .before .match) .keys4)) (call-is ((c .before .before .before .before .before .before .before .before .args) .stream .now) ((c .before .before .before .before .before .before .before .before .args) .ranking) ((c .before .before .before .before .before .before .before .before .args) .g) ((c .before .before .before .before .before .before .before .before .args) .c) 49 q (λ z. omega arith) refl refl refl) ((c .before .before .before .call) .result) ((c .before .before .before .call) .ensures) ((c .tagged4) .result) ((c .tagged4) .ensures)
+    suffix-part ((c .before .before .before .before .before .before .before .before .args) .stream .now) (((c .before .before .before .before .before .before .before .before .args) .c) .place + 1) ((c .before .before .before .before .before .before .before .before .args) .used) 0 ((c .before .before .before .before .before .before .before .before .args) .nodes .now) ((c .before .before .before .call) .last .1 .0) ((c .before .before .before .before .before .before .before .before .args) .kind) 34 unlined (((c .before .before .before .before .before .before .before .before .args) .c) .place) (says ((c .before .before .before .before .before .before .before .before .args) .stream .now) ((c .before .before .before .before .before .before .before .before .args) .ranking) ((c .before .before .before .before .before .before .before .before .args) .g) (args′ 1) ((c .before .before .before .before .before .before .before .before .args) .c)) (among first-suffix ((c .before .before .before .before .before .match) .keys4)) (call-is ((c .before .before .before .before .before .before .before .before .args) .stream .now) ((c .before .before .before .before .before .before .before .before .args) .ranking) ((c .before .before .before .before .before .before .before .before .args) .g) ((c .before .before .before .before .before .before .before .before .args) .c) 49 q (λ z. omega arith) refl) ((c .before .before .before .call) .result) ((c .before .before .before .call) .ensures) ((c .tagged4) .result) ((c .tagged4) .ensures)
 
 pub suffix-same-length-5 : (t : ℕ) → suffix-lts.Need-same-length-5 (
   field-name-reads.Asked,
@@ -346,7 +346,7 @@ pub suffix-returns-5 : (t : ℕ) → suffix-lts.Need-returns-5 (
 unfolding read
 suffix-returns-5 t c =
     let q = sym ((c .before .before .before .before .before .before .before .before .pre) .1 .1) ∙ (c .before .before .before .before .before .match) .keys5 in
-    suffix-part ((c .before .before .before .before .before .before .before .before .args) .stream .now) (((c .before .before .before .before .before .before .before .before .args) .c) .place + 1) ((c .before .before .before .before .before .before .before .before .args) .used) 0 ((c .before .before .before .before .before .before .before .before .args) .nodes .now) ((c .before .before .before .call2) .last .1 .0) ((c .before .before .before .before .before .before .before .before .args) .kind) 34 unlined (((c .before .before .before .before .before .before .before .before .args) .c) .place) (says ((c .before .before .before .before .before .before .before .before .args) .stream .now) ((c .before .before .before .before .before .before .before .before .args) .ranking) ((c .before .before .before .before .before .before .before .before .args) .g) (args′ 1) ((c .before .before .before .before .before .before .before .before .args) .c)) (alike first-suffix ((c .before .before .before .before .before .match) .keys5)) (call-is ((c .before .before .before .before .before .before .before .before .args) .stream .now) ((c .before .before .before .before .before .before .before .before .args) .ranking) ((c .before .before .before .before .before .before .before .before .args) .g) ((c .before .before .before .before .before .before .before .before .args) .c) 53 q (λ z. omega arith) refl refl refl) ((c .before .before .before .call2) .result) ((c .before .before .before .call2) .ensures) ((c .tagged5) .result) ((c .tagged5) .ensures)
+    suffix-part ((c .before .before .before .before .before .before .before .before .args) .stream .now) (((c .before .before .before .before .before .before .before .before .args) .c) .place + 1) ((c .before .before .before .before .before .before .before .before .args) .used) 0 ((c .before .before .before .before .before .before .before .before .args) .nodes .now) ((c .before .before .before .call2) .last .1 .0) ((c .before .before .before .before .before .before .before .before .args) .kind) 34 unlined (((c .before .before .before .before .before .before .before .before .args) .c) .place) (says ((c .before .before .before .before .before .before .before .before .args) .stream .now) ((c .before .before .before .before .before .before .before .before .args) .ranking) ((c .before .before .before .before .before .before .before .before .args) .g) (args′ 1) ((c .before .before .before .before .before .before .before .before .args) .c)) (among first-suffix ((c .before .before .before .before .before .match) .keys5)) (call-is ((c .before .before .before .before .before .before .before .before .args) .stream .now) ((c .before .before .before .before .before .before .before .before .args) .ranking) ((c .before .before .before .before .before .before .before .before .args) .g) ((c .before .before .before .before .before .before .before .before .args) .c) 53 q (λ z. omega arith) refl) ((c .before .before .before .call2) .result) ((c .before .before .before .call2) .ensures) ((c .tagged5) .result) ((c .tagged5) .ensures)
 
 pub suffix-same-length-6 : (t : ℕ) → suffix-lts.Need-same-length-6 (
   field-name-reads.Asked,
@@ -377,7 +377,7 @@ pub suffix-returns-6 : (t : ℕ) → suffix-lts.Need-returns-6 (
 unfolding read
 suffix-returns-6 t c =
     let q = sym ((c .before .before .before .before .before .before .before .before .pre) .1 .1) ∙ (c .before .before .before .before .before .match) .keys6 in
-    suffix-part ((c .before .before .before .before .before .before .before .before .args) .stream .now) (((c .before .before .before .before .before .before .before .before .args) .c) .place + 1) ((c .before .before .before .before .before .before .before .before .args) .used) 0 ((c .before .before .before .before .before .before .before .before .args) .nodes .now) ((c .before .before .before .call3) .last .1 .0) ((c .before .before .before .before .before .before .before .before .args) .kind) 34 unlined (((c .before .before .before .before .before .before .before .before .args) .c) .place) (says ((c .before .before .before .before .before .before .before .before .args) .stream .now) ((c .before .before .before .before .before .before .before .before .args) .ranking) ((c .before .before .before .before .before .before .before .before .args) .g) (args′ 1) ((c .before .before .before .before .before .before .before .before .args) .c)) (alike first-suffix ((c .before .before .before .before .before .match) .keys6)) (call-is ((c .before .before .before .before .before .before .before .before .args) .stream .now) ((c .before .before .before .before .before .before .before .before .args) .ranking) ((c .before .before .before .before .before .before .before .before .args) .g) ((c .before .before .before .before .before .before .before .before .args) .c) 57 q (λ z. omega arith) refl refl refl) ((c .before .before .before .call3) .result) ((c .before .before .before .call3) .ensures) ((c .tagged6) .result) ((c .tagged6) .ensures)
+    suffix-part ((c .before .before .before .before .before .before .before .before .args) .stream .now) (((c .before .before .before .before .before .before .before .before .args) .c) .place + 1) ((c .before .before .before .before .before .before .before .before .args) .used) 0 ((c .before .before .before .before .before .before .before .before .args) .nodes .now) ((c .before .before .before .call3) .last .1 .0) ((c .before .before .before .before .before .before .before .before .args) .kind) 34 unlined (((c .before .before .before .before .before .before .before .before .args) .c) .place) (says ((c .before .before .before .before .before .before .before .before .args) .stream .now) ((c .before .before .before .before .before .before .before .before .args) .ranking) ((c .before .before .before .before .before .before .before .before .args) .g) (args′ 1) ((c .before .before .before .before .before .before .before .before .args) .c)) (among first-suffix ((c .before .before .before .before .before .match) .keys6)) (call-is ((c .before .before .before .before .before .before .before .before .args) .stream .now) ((c .before .before .before .before .before .before .before .before .args) .ranking) ((c .before .before .before .before .before .before .before .before .args) .g) ((c .before .before .before .before .before .before .before .before .args) .c) 57 q (λ z. omega arith) refl) ((c .before .before .before .call3) .result) ((c .before .before .before .call3) .ensures) ((c .tagged6) .result) ((c .tagged6) .ensures)
 
 pub suffix-returns-7 : (t : ℕ) → suffix-lts.Need-returns-7 (
   field-name-reads.Asked,
@@ -391,4 +391,4 @@ pub suffix-returns-7 : (t : ℕ) → suffix-lts.Need-returns-7 (
   call-below t,
   call.Post,
 ) (suffix-at t) suffix.Post
-suffix-returns-7 t c = ((also-out 44 (51 ∷ 46 ∷ 49 ∷ 53 ∷ 57 ∷ []) ((c .match) .rest .0 .0 .0 .0 .0 .1) (also-out 51 (46 ∷ 49 ∷ 53 ∷ 57 ∷ []) ((c .match) .rest .0 .0 .0 .0 .1) (also-out 46 (49 ∷ 53 ∷ 57 ∷ []) ((c .match) .rest .0 .0 .0 .1) (also-out 49 (53 ∷ 57 ∷ []) ((c .match) .rest .0 .0 .1) (also-out 53 (57 ∷ []) ((c .match) .rest .0 .1) (also-out 57 ([]) ((c .match) .rest .1) refl)))))), refl)
+suffix-returns-7 t c = (nor ((c .before .before .before .args) .kind) first-suffix ((c .match) .rest .0 .0 .0 .0 .0 .1) ((c .match) .rest .0 .0 .0 .0 .1) ((c .match) .rest .0 .0 .0 .1) ((c .match) .rest .0 .0 .1) ((c .match) .rest .0 .1) ((c .match) .rest .1), refl)

@@ -17,22 +17,18 @@ use Rattle.operators.specs.Ranks.{ranks}
 use Rattle.stream.specs.Words.{records}
 use Rattle.stream.specs.Formed.{Formed}
 use Rattle.tree.specs.Forest.{none}
-use Rattle.grammar.specs.Reading.{Out, read, hold, wrap, then, last, loop}
+use Rattle.grammar.specs.Reading.{Out, read, hold, wrap, add, then, last, loop}
 use Rattle.grammar.specs.Levels.{readers}
 use Rattle.grammar.specs.Term.{ahead, unlined}
 use Rattle.grammar.specs.Term.{empty, plus, _⨾_, on, iter}
 use Rattle.grammar.specs.Term.{again as again′}
 use Rattle.parser.specs.Contract.{under}
 use Rattle.stream.proofs.Words.{few}
-use Rattle.parser.proofs.Steps.{saw, look-in, look-out, end-out}
-use Rattle.parser.proofs.Kit.{revalue, kept, looked, stop, past, both, over, Going, going-length, fails, ends}
-use Rattle.parser.proofs.Tokens.{looping, look-place, end-place}
-use Rattle.parser.proofs.Looks.{settled}
+use Rattle.parser.proofs.Steps.{look-in, look-out, end-out, look-place, end-place, saw-kind}
+use Rattle.parser.proofs.Kit.{kept, revalue, looked, Going, begin, going-length, fails, ends, stop, past, both, over}
+use Rattle.parser.proofs.Around.{looping, settled}
+use Rattle.parser.proofs.Suffixes.{last-tag, suffix-tag, turns-last, parts-last}
 use Rattle.grammar.specs.Productions.{explist, field as field′, table as table′, args as args′, suffix as suffix′, suffixed as suffixed′}
-use Rattle.grammar.specs.Reading.{add}
-use Rattle.parser.proofs.Tags.{last-tag, suffix-tag, begins, turns-last, parts-last}
-use Rattle.stream.specs.Words.{kind as kindAt}
-use Rattle.stream.specs.declared.reader.Token.{Token}
 use lib.Seq.{sets}
 use Rattle.tree.specs.Forest.{words}
 
@@ -125,10 +121,11 @@ pub suffixed-loop-holds : (t : ℕ) → suffixed-lts.Need-loop-holds (
   suffix-below t,
   suffix.Post,
 ) (suffixed-at t) suffixed.Post suffixed-Inv-loop suffixed-μ-loop
+unfolding begin
 suffixed-loop-holds t c =
     let x1 = rw ((c .before .d) .given .1) at ((c .before .before .before .before .before .primary) .ensures) in
     let f1 = x1 .0 in
-    (((c .before .before .before .before .before .before .before .before .before .pre) .1) .formed, f1 .at, f1 .room, omega arith, begins _ _ 0 _ _ _ (f1 .at) (f1 .room))
+    (((c .before .before .before .before .before .before .before .before .before .pre) .1) .formed, f1 .at, f1 .room, omega arith, (begin _ _ 0 _ _ refl (f1 .at) (f1 .room), refl))
 
 pub suffixed-look-ahead-requires : (t : ℕ) → suffixed-lts.Need-look-ahead-requires (
   primary-below t,
@@ -167,7 +164,7 @@ pub suffixed-sub-put : (t : ℕ) → suffixed-lts.Need-sub-put (
 suffixed-sub-put t c =
     let x1 = rw ((c .before .before .before .before .before .before .before .d) .given .1) at ((c .before .before .before .before .before .before .before .before .before .before .before .primary) .ensures) in
     let f1 = x1 .0 in
-    omega (arith, f1 .grown, ((c .before .before .before .before .before .loop) .inv .4 .0) .grown)
+    omega (arith, f1 .grown, (((c .before .before .before .before .before .loop) .inv) .4 .0) .grown)
 
 pub suffixed-put-requires : (t : ℕ) → suffixed-lts.Need-put-requires (
   primary-below t,
@@ -191,7 +188,7 @@ pub suffixed-same-length-2 : (t : ℕ) → suffixed-lts.Need-same-length-2 (
   suffix-below t,
   suffix.Post,
 ) (suffixed-at t) suffixed.Post suffixed-Inv-loop suffixed-μ-loop
-suffixed-same-length-2 t c = (c .before .before .put) .kept .0 ∙ going-length ((c .before .before .before .before .before .before .before .before .loop) .inv .4 .0) ∙ (c .before .before .before .before .before .before .before .before .before .before .before .before .before .before .primary) .kept .1 .0
+suffixed-same-length-2 t c = (c .before .before .put) .kept .0 ∙ going-length (((c .before .before .before .before .before .before .before .before .loop) .inv) .4 .0) ∙ (c .before .before .before .before .before .before .before .before .before .before .before .before .before .before .primary) .kept .1 .0
 
 pub suffixed-returns-2 : (t : ℕ) → suffixed-lts.Need-returns-2 (
   primary-below t,
@@ -208,9 +205,9 @@ suffixed-returns-2 t c =
     let x1 = rw ((c .before .before .before .before .before .before .before .before .before .before .d) .given .1) at ((c .before .before .before .before .before .before .before .before .before .before .before .before .before .before .primary) .ensures) in
     let f1 = x1 .0 in
     let q = looping ((c .before .before .before .before .before .before .before .before .before .before .before .before .before .before .before .before .before .before .args) .stream .now) ((c .before .before .before .before .before .before .before .before .before .before .before .before .before .before .before .before .before .before .args) .ranking) 0 ((c .before .before .before .before .before .before .before .before .before .before .before .before .before .before .before .before .before .before .args) .g) 0 (on ahead (44 ∷ 51 ∷ 46 ∷ 49 ∷ 53 ∷ 57 ∷ []) ((plus 1 ⨾ suffix′) ⨾ again′) empty) refl ((c .before .before .before .before .before .before .before .before .loop) .at) (((c .before .before .before .before .before .before .before .before .loop) .inv) .1) ∙ end-out ((c .before .before .before .before .before .before .before .before .before .before .before .before .before .before .before .before .before .before .args) .stream .now) (ranks ((c .before .before .before .before .before .before .before .before .before .before .before .before .before .before .before .before .before .before .args) .ranking)) 0 (readers ((c .before .before .before .before .before .before .before .before .before .before .before .before .before .before .before .before .before .before .args) .stream .now) (ranks ((c .before .before .before .before .before .before .before .before .before .before .before .before .before .before .before .before .before .before .args) .ranking)) ((c .before .before .before .before .before .before .before .before .before .before .before .before .before .before .before .before .before .before .args) .g)) (hold 0 0 none) (under ((c .before .before .before .before .before .before .before .before .before .before .before .before .before .before .before .before .before .before .args) .stream .now) ((c .before .before .before .before .before .before .before .before .before .before .before .before .before .before .before .before .before .before .args) .ranking) 0 ((c .before .before .before .before .before .before .before .before .before .before .before .before .before .before .before .before .before .before .args) .g) 0 (iter (on ahead (44 ∷ 51 ∷ 46 ∷ 49 ∷ 53 ∷ 57 ∷ []) ((plus 1 ⨾ suffix′) ⨾ again′) empty))) ((c .before .before .before .before .before .before .before .before .loop) .at) (44 ∷ 51 ∷ 46 ∷ 49 ∷ 53 ∷ 57 ∷ []) ((plus 1 ⨾ suffix′) ⨾ again′) empty (sym ((c .before .before .before .before .before .before .before .look-ahead) .ensures) ∙ (c .before .before .before .before .before .d2) .given .1) refl in
-    let z = ends ((c .before .before .before .before .before .before .before .before .loop) .inv .4 .0) (looked _ ((c .before .before .before .before .before .before .before .before .loop) .u) 0 ((c .before .before .before .before .before .before .before .before .loop) .at) ((c .before .before .before .before .before .d2) .given .0 .0) q (end-place ((c .before .before .before .before .before .before .before .before .before .before .before .before .before .before .before .before .before .before .args) .stream .now) ((c .before .before .before .before .before .before .before .before .loop) .at) (sym ((c .before .before .before .before .before .before .before .look-ahead) .ensures) ∙ (c .before .before .before .before .before .d2) .given .1)) (((c .before .before .before .before .before .before .before .before .loop) .inv) .1) (((c .before .before .before .before .before .before .before .before .loop) .inv) .2)) (omega arith) in
-    let f = over 29 unlined (((c .before .before .before .before .before .before .before .before .before .before .before .before .before .before .before .before .before .before .args) .c) .place) 0 (revalue {w = (c .before .before .before .before .before .before .before .before .loop) .n} (omega arith) (both (under ((c .before .before .before .before .before .before .before .before .before .before .before .before .before .before .before .before .before .before .args) .stream .now) ((c .before .before .before .before .before .before .before .before .before .before .before .before .before .before .before .before .before .before .args) .ranking) 0 ((c .before .before .before .before .before .before .before .before .before .before .before .before .before .before .before .before .before .before .args) .g) 0 (iter (on ahead (44 ∷ 51 ∷ 46 ∷ 49 ∷ 53 ∷ 57 ∷ []) ((plus 1 ⨾ suffix′) ⨾ again′) empty))) f1 z (omega arith))) ((c .before .before .put) .ensures) refl in
-    (f, parts-last (under ((c .before .before .before .before .before .before .before .before .before .before .before .before .before .before .before .before .before .before .args) .stream .now) ((c .before .before .before .before .before .before .before .before .before .before .before .before .before .before .before .before .before .before .args) .ranking) 0 ((c .before .before .before .before .before .before .before .before .before .before .before .before .before .before .before .before .before .before .args) .g) 0 (iter (on ahead (44 ∷ 51 ∷ 46 ∷ 49 ∷ 53 ∷ 57 ∷ []) ((plus 1 ⨾ suffix′) ⨾ again′) empty))) f1 ((c .before .before .before .before .before .before .before .before .loop) .inv .4 .0) ((c .before .before .before .before .before .d2) .given .0 .0) q 29 unlined (((c .before .before .before .before .before .before .before .before .before .before .before .before .before .before .before .before .before .before .args) .c) .place) f ((c .before .before .before .before .before .before .before .before .before .before .d) .given .0 .1 .1 .0) ((c .before .before .before .before .before .before .before .before .loop) .last) (x1 .1) (((c .before .before .before .before .before .before .before .before .loop) .inv) .4 .1))
+    let z = ends (((c .before .before .before .before .before .before .before .before .loop) .inv) .4 .0) (looked _ ((c .before .before .before .before .before .before .before .before .loop) .u) 0 ((c .before .before .before .before .before .before .before .before .loop) .at) ((c .before .before .before .before .before .d2) .given .0 .0) q (end-place ((c .before .before .before .before .before .before .before .before .before .before .before .before .before .before .before .before .before .before .args) .stream .now) ((c .before .before .before .before .before .before .before .before .loop) .at) (sym ((c .before .before .before .before .before .before .before .look-ahead) .ensures) ∙ (c .before .before .before .before .before .d2) .given .1)) (((c .before .before .before .before .before .before .before .before .loop) .inv) .1) (((c .before .before .before .before .before .before .before .before .loop) .inv) .2)) (omega arith) in
+    let f = over 29 unlined (((c .before .before .before .before .before .before .before .before .before .before .before .before .before .before .before .before .before .before .args) .c) .place) 0 (revalue {w = ((c .before .before .before .before .before .before .before .before .loop) .n)} (omega arith) (both (under ((c .before .before .before .before .before .before .before .before .before .before .before .before .before .before .before .before .before .before .args) .stream .now) ((c .before .before .before .before .before .before .before .before .before .before .before .before .before .before .before .before .before .before .args) .ranking) 0 ((c .before .before .before .before .before .before .before .before .before .before .before .before .before .before .before .before .before .before .args) .g) 0 (iter (on ahead (44 ∷ 51 ∷ 46 ∷ 49 ∷ 53 ∷ 57 ∷ []) ((plus 1 ⨾ suffix′) ⨾ again′) empty))) f1 z (omega arith))) ((c .before .before .put) .ensures) refl in
+    (f, parts-last (under ((c .before .before .before .before .before .before .before .before .before .before .before .before .before .before .before .before .before .before .args) .stream .now) ((c .before .before .before .before .before .before .before .before .before .before .before .before .before .before .before .before .before .before .args) .ranking) 0 ((c .before .before .before .before .before .before .before .before .before .before .before .before .before .before .before .before .before .before .args) .g) 0 (iter (on ahead (44 ∷ 51 ∷ 46 ∷ 49 ∷ 53 ∷ 57 ∷ []) ((plus 1 ⨾ suffix′) ⨾ again′) empty))) f1 (((c .before .before .before .before .before .before .before .before .loop) .inv) .4 .0) ((c .before .before .before .before .before .d2) .given .0 .0) q 29 unlined (((c .before .before .before .before .before .before .before .before .before .before .before .before .before .before .before .before .before .before .args) .c) .place) f ((c .before .before .before .before .before .before .before .before .before .before .d) .given .0 .1 .1 .0) ((c .before .before .before .before .before .before .before .before .loop) .last) (x1 .1) (((c .before .before .before .before .before .before .before .before .loop) .inv) .4 .1))
 
 pub suffixed-enum-known-t : (t : ℕ) → suffixed-lts.Need-enum-known-t (
   primary-below t,
@@ -235,9 +232,8 @@ pub suffixed-suffix-requires : (t : ℕ) → suffixed-lts.Need-suffix-requires (
   suffix.Post,
 ) (suffixed-at t) suffixed.Post suffixed-Inv-loop suffixed-μ-loop
 suffixed-suffix-requires t c κs =
-    let y = saw ((c .before .before .before .before .before .before .before .before .before .before .before .before .before .before .before .args) .stream .now) ((c .before .before .before .before .before .loop) .at) (sym ((c .before .before .before .before .look-ahead) .ensures) ∙ (c .before .before .t) .given .1) in
     let p = look-place ((c .before .before .before .before .before .before .before .before .before .before .before .before .before .before .before .args) .stream .now) ((c .before .before .before .before .before .loop) .at) (sym ((c .before .before .before .before .look-ahead) .ensures) ∙ (c .before .before .t) .given .1) in
-    (omega (arith, (c .before .before .before .before .before .before .before .before .before .before .before .before .before .before .before .pre) .0), (record { formed = ((c .before .before .before .before .before .loop) .inv) .0; at = omega (arith, p, ((c .before .before .before .before .before .loop) .inv) .1); room = omega (arith, p, ((c .before .before .before .before .before .loop) .inv) .2) }, ap (λ (z : Token). z .kind) (y .token) ∙ ap (kindAt ((c .before .before .before .before .before .before .before .before .before .before .before .before .before .before .before .args) .stream .now)) (sym p)))
+    (omega (arith, (c .before .before .before .before .before .before .before .before .before .before .before .before .before .before .before .pre) .0), (record { formed = ((c .before .before .before .before .before .loop) .inv) .0; at = omega (arith, p, ((c .before .before .before .before .before .loop) .inv) .1); room = omega (arith, p, ((c .before .before .before .before .before .loop) .inv) .2) }, saw-kind ((c .before .before .before .before .before .before .before .before .before .before .before .before .before .before .before .args) .stream .now) ((c .before .before .before .before .before .loop) .at) (sym ((c .before .before .before .before .look-ahead) .ensures) ∙ (c .before .before .t) .given .1)))
 
 pub suffixed-enum-known-e-2 : (t : ℕ) → suffixed-lts.Need-enum-known-e-2 (
   primary-below t,
@@ -293,12 +289,12 @@ suffixed-loop-again t c =
     let x = rw ((c .before .e2) .given .1) at ((c .before .before .before .before .before .suffix) .ensures) in
     let p = look-place ((c .before .before .before .before .before .before .before .before .before .before .before .before .before .before .before .before .before .before .before .before .before .args) .stream .now) ((c .before .before .before .before .before .before .before .before .before .before .before .loop) .at) (sym ((c .before .before .before .before .before .before .before .before .before .before .look-ahead) .ensures) ∙ (c .before .before .before .before .before .before .before .before .t) .given .1) in
     let f = x .1 .0 in
-    let e0 = looping ((c .before .before .before .before .before .before .before .before .before .before .before .before .before .before .before .before .before .before .before .before .before .args) .stream .now) ((c .before .before .before .before .before .before .before .before .before .before .before .before .before .before .before .before .before .before .before .before .before .args) .ranking) 0 ((c .before .before .before .before .before .before .before .before .before .before .before .before .before .before .before .before .before .before .before .before .before .args) .g) 0 (on ahead (44 ∷ 51 ∷ 46 ∷ 49 ∷ 53 ∷ 57 ∷ []) ((plus 1 ⨾ suffix′) ⨾ again′) empty) refl ((c .before .before .before .before .before .before .before .before .before .before .before .loop) .at) (((c .before .before .before .before .before .before .before .before .before .before .before .loop) .inv) .1) ∙ look-in ((c .before .before .before .before .before .before .before .before .before .before .before .before .before .before .before .before .before .before .before .before .before .args) .stream .now) (ranks ((c .before .before .before .before .before .before .before .before .before .before .before .before .before .before .before .before .before .before .before .before .before .args) .ranking)) 0 (readers ((c .before .before .before .before .before .before .before .before .before .before .before .before .before .before .before .before .before .before .before .before .before .args) .stream .now) (ranks ((c .before .before .before .before .before .before .before .before .before .before .before .before .before .before .before .before .before .before .before .before .before .args) .ranking)) ((c .before .before .before .before .before .before .before .before .before .before .before .before .before .before .before .before .before .before .before .before .before .args) .g)) (hold 0 0 none) (under ((c .before .before .before .before .before .before .before .before .before .before .before .before .before .before .before .before .before .before .before .before .before .args) .stream .now) ((c .before .before .before .before .before .before .before .before .before .before .before .before .before .before .before .before .before .before .before .before .before .args) .ranking) 0 ((c .before .before .before .before .before .before .before .before .before .before .before .before .before .before .before .before .before .before .before .before .before .args) .g) 0 (iter (on ahead (44 ∷ 51 ∷ 46 ∷ 49 ∷ 53 ∷ 57 ∷ []) ((plus 1 ⨾ suffix′) ⨾ again′) empty))) ((c .before .before .before .before .before .before .before .before .before .before .before .loop) .at) (44 ∷ 51 ∷ 46 ∷ 49 ∷ 53 ∷ 57 ∷ []) ((plus 1 ⨾ suffix′) ⨾ again′) empty (sym ((c .before .before .before .before .before .before .before .before .before .before .look-ahead) .ensures) ∙ (c .before .before .before .before .before .before .before .before .t) .given .1) (x .0) in (
+    let e0 = looping ((c .before .before .before .before .before .before .before .before .before .before .before .before .before .before .before .before .before .before .before .before .before .args) .stream .now) ((c .before .before .before .before .before .before .before .before .before .before .before .before .before .before .before .before .before .before .before .before .before .args) .ranking) 0 ((c .before .before .before .before .before .before .before .before .before .before .before .before .before .before .before .before .before .before .before .before .before .args) .g) 0 (on ahead (44 ∷ 51 ∷ 46 ∷ 49 ∷ 53 ∷ 57 ∷ []) ((plus 1 ⨾ suffix′) ⨾ again′) empty) refl ((c .before .before .before .before .before .before .before .before .before .before .before .loop) .at) (((c .before .before .before .before .before .before .before .before .before .before .before .loop) .inv) .1) ∙ look-in ((c .before .before .before .before .before .before .before .before .before .before .before .before .before .before .before .before .before .before .before .before .before .args) .stream .now) (ranks ((c .before .before .before .before .before .before .before .before .before .before .before .before .before .before .before .before .before .before .before .before .before .args) .ranking)) 0 (readers ((c .before .before .before .before .before .before .before .before .before .before .before .before .before .before .before .before .before .before .before .before .before .args) .stream .now) (ranks ((c .before .before .before .before .before .before .before .before .before .before .before .before .before .before .before .before .before .before .before .before .before .args) .ranking)) ((c .before .before .before .before .before .before .before .before .before .before .before .before .before .before .before .before .before .before .before .before .before .args) .g)) (hold 0 0 none) (under ((c .before .before .before .before .before .before .before .before .before .before .before .before .before .before .before .before .before .before .before .before .before .args) .stream .now) ((c .before .before .before .before .before .before .before .before .before .before .before .before .before .before .before .before .before .before .before .before .before .args) .ranking) 0 ((c .before .before .before .before .before .before .before .before .before .before .before .before .before .before .before .before .before .before .before .before .before .args) .g) 0 (iter (on ahead (44 ∷ 51 ∷ 46 ∷ 49 ∷ 53 ∷ 57 ∷ []) ((plus 1 ⨾ suffix′) ⨾ again′) empty))) ((c .before .before .before .before .before .before .before .before .before .before .before .loop) .at) (44 ∷ 51 ∷ 46 ∷ 49 ∷ 53 ∷ 57 ∷ []) ((plus 1 ⨾ suffix′) ⨾ again′) empty (sym ((c .before .before .before .before .before .before .before .before .before .before .look-ahead) .ensures) ∙ (c .before .before .before .before .before .before .before .before .t) .given .1) (x .0) ∙ ap (λ (o : Out). then (add none 1 o) (under ((c .before .before .before .before .before .before .before .before .before .before .before .before .before .before .before .before .before .before .before .before .before .args) .stream .now) ((c .before .before .before .before .before .before .before .before .before .before .before .before .before .before .before .before .before .before .before .before .before .args) .ranking) 0 ((c .before .before .before .before .before .before .before .before .before .before .before .before .before .before .before .before .before .before .before .before .before .args) .g) 0 (iter (on ahead (44 ∷ 51 ∷ 46 ∷ 49 ∷ 53 ∷ 57 ∷ []) ((plus 1 ⨾ suffix′) ⨾ again′) empty)))) (settled ((c .before .before .before .before .before .before .before .before .before .before .before .before .before .before .before .before .before .before .before .before .before .args) .stream .now) ((c .before .before .before .before .before .before .before .before .before .before .before .before .before .before .before .before .before .before .before .before .before .args) .ranking) 0 ((c .before .before .before .before .before .before .before .before .before .before .before .before .before .before .before .before .before .before .before .before .before .args) .g) (hold 0 0 none) (under ((c .before .before .before .before .before .before .before .before .before .before .before .before .before .before .before .before .before .before .before .before .before .args) .stream .now) ((c .before .before .before .before .before .before .before .before .before .before .before .before .before .before .before .before .before .before .before .before .before .args) .ranking) 0 ((c .before .before .before .before .before .before .before .before .before .before .before .before .before .before .before .before .before .before .before .before .before .args) .g) 0 (iter (on ahead (44 ∷ 51 ∷ 46 ∷ 49 ∷ 53 ∷ 57 ∷ []) ((plus 1 ⨾ suffix′) ⨾ again′) empty))) suffix′ refl ((c .before .before .before .before .before .before .before .before .t) .given .0 .1 .0)) in (
       ((c .before .before .before .before .before .before .before .before .before .before .before .loop) .inv) .0,
       f .at,
       f .room,
       omega (arith, p, f .later, ((c .before .before .before .before .before .before .before .before .before .before .before .loop) .inv) .3),
-      turns-last ((c .before .before .before .before .before .before .before .before .before .before .before .loop) .inv .4 .0) 1 (e0 ∙ ap (λ (o : Out). then (add none 1 o) (under ((c .before .before .before .before .before .before .before .before .before .before .before .before .before .before .before .before .before .before .before .before .before .args) .stream .now) ((c .before .before .before .before .before .before .before .before .before .before .before .before .before .before .before .before .before .before .before .before .before .args) .ranking) 0 ((c .before .before .before .before .before .before .before .before .before .before .before .before .before .before .before .before .before .before .before .before .before .args) .g) 0 (iter (on ahead (44 ∷ 51 ∷ 46 ∷ 49 ∷ 53 ∷ 57 ∷ []) ((plus 1 ⨾ suffix′) ⨾ again′) empty)))) (settled ((c .before .before .before .before .before .before .before .before .before .before .before .before .before .before .before .before .before .before .before .before .before .args) .stream .now) ((c .before .before .before .before .before .before .before .before .before .before .before .before .before .before .before .before .before .before .before .before .before .args) .ranking) 0 ((c .before .before .before .before .before .before .before .before .before .before .before .before .before .before .before .before .before .before .before .before .before .args) .g) (hold 0 0 none) (under ((c .before .before .before .before .before .before .before .before .before .before .before .before .before .before .before .before .before .before .before .before .before .args) .stream .now) ((c .before .before .before .before .before .before .before .before .before .before .before .before .before .before .before .before .before .before .before .before .before .args) .ranking) 0 ((c .before .before .before .before .before .before .before .before .before .before .before .before .before .before .before .before .before .before .before .before .before .args) .g) 0 (iter (on ahead (44 ∷ 51 ∷ 46 ∷ 49 ∷ 53 ∷ 57 ∷ []) ((plus 1 ⨾ suffix′) ⨾ again′) empty))) suffix′ refl ((c .before .before .before .before .before .before .before .before .t) .given .0 .1 .0))) f (omega (arith, p)) (f .room) ((c .before .before .before .before .before .before .before .before .before .before .before .before .before .d) .given .0 .1 .1 .0) ((c .before .e2) .given .0 .1 .1 .0) (x .1 .1 ∙ suffix-tag ((c .before .before .before .before .before .before .before .before .before .before .before .before .before .before .before .before .before .before .before .before .before .args) .stream .now) ((c .before .before .before .before .before .before .before .before .before .before .before .before .before .before .before .before .before .before .before .before .before .args) .ranking) ((c .before .before .before .before .before .before .before .before .before .before .before .before .before .before .before .before .before .before .before .before .before .args) .g) ((c .before .before .before .before .before .before .before .before .t) .given .0 .1 .0) (last-tag ((c .before .before .before .before .before .before .before .before .before .before .before .before .before .d) .given .0 .1 .1 .0) (((c .before .before .before .before .before .before .before .before .before .before .before .loop) .inv .4 .0) .trees)) f),
+      turns-last (((c .before .before .before .before .before .before .before .before .before .before .before .loop) .inv) .4 .0) 1 e0 f (omega (arith, p)) (f .room) ((c .before .before .before .before .before .before .before .before .before .before .before .before .before .d) .given .0 .1 .1 .0) ((c .before .e2) .given .0 .1 .1 .0) (x .1 .1 ∙ suffix-tag ((c .before .before .before .before .before .before .before .before .before .before .before .before .before .before .before .before .before .before .before .before .before .args) .stream .now) ((c .before .before .before .before .before .before .before .before .before .before .before .before .before .before .before .before .before .before .before .before .before .args) .ranking) ((c .before .before .before .before .before .before .before .before .before .before .before .before .before .before .before .before .before .before .before .before .before .args) .g) ((c .before .before .before .before .before .before .before .before .t) .given .0 .1 .0) (last-tag ((c .before .before .before .before .before .before .before .before .before .before .before .before .before .d) .given .0 .1 .1 .0) ((((c .before .before .before .before .before .before .before .before .before .before .before .loop) .inv) .4 .0) .trees)) f),
     )
 
 pub suffixed-enum-told : (t : ℕ) → suffixed-lts.Need-enum-told (
@@ -326,7 +322,7 @@ pub suffixed-sub-put-2 : (t : ℕ) → suffixed-lts.Need-sub-put-2 (
 suffixed-sub-put-2 t c =
     let x1 = rw ((c .before .before .before .before .before .before .before .before .before .before .before .before .before .d) .given .1) at ((c .before .before .before .before .before .before .before .before .before .before .before .before .before .before .before .before .before .primary) .ensures) in
     let f1 = x1 .0 in
-    omega (arith, f1 .grown, ((c .before .before .before .before .before .before .before .before .before .before .before .loop) .inv .4 .0) .grown)
+    omega (arith, f1 .grown, (((c .before .before .before .before .before .before .before .before .before .before .before .loop) .inv) .4 .0) .grown)
 
 pub suffixed-put-requires-2 : (t : ℕ) → suffixed-lts.Need-put-requires-2 (
   primary-below t,
@@ -350,7 +346,7 @@ pub suffixed-same-length-3 : (t : ℕ) → suffixed-lts.Need-same-length-3 (
   suffix-below t,
   suffix.Post,
 ) (suffixed-at t) suffixed.Post suffixed-Inv-loop suffixed-μ-loop
-suffixed-same-length-3 t c = (c .before .before .put2) .kept .0 ∙ (c .before .before .before .before .before .before .before .before .suffix) .kept .1 .0 ∙ going-length ((c .before .before .before .before .before .before .before .before .before .before .before .before .before .before .loop) .inv .4 .0) ∙ (c .before .before .before .before .before .before .before .before .before .before .before .before .before .before .before .before .before .before .before .before .primary) .kept .1 .0
+suffixed-same-length-3 t c = (c .before .before .put2) .kept .0 ∙ (c .before .before .before .before .before .before .before .before .suffix) .kept .1 .0 ∙ going-length (((c .before .before .before .before .before .before .before .before .before .before .before .before .before .before .loop) .inv) .4 .0) ∙ (c .before .before .before .before .before .before .before .before .before .before .before .before .before .before .before .before .before .before .before .before .primary) .kept .1 .0
 
 pub suffixed-returns-3 : (t : ℕ) → suffixed-lts.Need-returns-3 (
   primary-below t,
@@ -368,9 +364,9 @@ suffixed-returns-3 t c =
     let f1 = x1 .0 in
     let x = rw ((c .before .before .before .before .enum-told) .given .1) at ((c .before .before .before .before .before .before .before .before .suffix) .ensures) in
     let q = looping ((c .before .before .before .before .before .before .before .before .before .before .before .before .before .before .before .before .before .before .before .before .before .before .before .before .args) .stream .now) ((c .before .before .before .before .before .before .before .before .before .before .before .before .before .before .before .before .before .before .before .before .before .before .before .before .args) .ranking) 0 ((c .before .before .before .before .before .before .before .before .before .before .before .before .before .before .before .before .before .before .before .before .before .before .before .before .args) .g) 0 (on ahead (44 ∷ 51 ∷ 46 ∷ 49 ∷ 53 ∷ 57 ∷ []) ((plus 1 ⨾ suffix′) ⨾ again′) empty) refl ((c .before .before .before .before .before .before .before .before .before .before .before .before .before .before .loop) .at) (((c .before .before .before .before .before .before .before .before .before .before .before .before .before .before .loop) .inv) .1) ∙ look-out ((c .before .before .before .before .before .before .before .before .before .before .before .before .before .before .before .before .before .before .before .before .before .before .before .before .args) .stream .now) (ranks ((c .before .before .before .before .before .before .before .before .before .before .before .before .before .before .before .before .before .before .before .before .before .before .before .before .args) .ranking)) 0 (readers ((c .before .before .before .before .before .before .before .before .before .before .before .before .before .before .before .before .before .before .before .before .before .before .before .before .args) .stream .now) (ranks ((c .before .before .before .before .before .before .before .before .before .before .before .before .before .before .before .before .before .before .before .before .before .before .before .before .args) .ranking)) ((c .before .before .before .before .before .before .before .before .before .before .before .before .before .before .before .before .before .before .before .before .before .before .before .before .args) .g)) (hold 0 0 none) (under ((c .before .before .before .before .before .before .before .before .before .before .before .before .before .before .before .before .before .before .before .before .before .before .before .before .args) .stream .now) ((c .before .before .before .before .before .before .before .before .before .before .before .before .before .before .before .before .before .before .before .before .before .before .before .before .args) .ranking) 0 ((c .before .before .before .before .before .before .before .before .before .before .before .before .before .before .before .before .before .before .before .before .before .before .before .before .args) .g) 0 (iter (on ahead (44 ∷ 51 ∷ 46 ∷ 49 ∷ 53 ∷ 57 ∷ []) ((plus 1 ⨾ suffix′) ⨾ again′) empty))) ((c .before .before .before .before .before .before .before .before .before .before .before .before .before .before .loop) .at) (44 ∷ 51 ∷ 46 ∷ 49 ∷ 53 ∷ 57 ∷ []) ((plus 1 ⨾ suffix′) ⨾ again′) empty (sym ((c .before .before .before .before .before .before .before .before .before .before .before .before .before .look-ahead) .ensures) ∙ (c .before .before .before .before .before .before .before .before .before .before .before .t) .given .1) (x .0) in
-    let z = ends ((c .before .before .before .before .before .before .before .before .before .before .before .before .before .before .loop) .inv .4 .0) (looked _ ((c .before .before .before .before .before .before .before .before .before .before .before .before .before .before .loop) .u) 0 ((c .before .before .before .before .before .before .before .before .before .before .before .before .before .before .loop) .at) ((c .before .before .before .before .before .before .before .before .before .before .before .t) .given .0 .1 .0) q (look-place ((c .before .before .before .before .before .before .before .before .before .before .before .before .before .before .before .before .before .before .before .before .before .before .before .before .args) .stream .now) ((c .before .before .before .before .before .before .before .before .before .before .before .before .before .before .loop) .at) (sym ((c .before .before .before .before .before .before .before .before .before .before .before .before .before .look-ahead) .ensures) ∙ (c .before .before .before .before .before .before .before .before .before .before .before .t) .given .1)) (((c .before .before .before .before .before .before .before .before .before .before .before .before .before .before .loop) .inv) .1) (((c .before .before .before .before .before .before .before .before .before .before .before .before .before .before .loop) .inv) .2)) (omega arith) in
-    let f = over 29 unlined (((c .before .before .before .before .before .before .before .before .before .before .before .before .before .before .before .before .before .before .before .before .before .before .before .before .args) .c) .place) 0 (revalue {w = (c .before .before .before .before .before .before .before .before .before .before .before .before .before .before .loop) .n} (omega arith) (both (under ((c .before .before .before .before .before .before .before .before .before .before .before .before .before .before .before .before .before .before .before .before .before .before .before .before .args) .stream .now) ((c .before .before .before .before .before .before .before .before .before .before .before .before .before .before .before .before .before .before .before .before .before .before .before .before .args) .ranking) 0 ((c .before .before .before .before .before .before .before .before .before .before .before .before .before .before .before .before .before .before .before .before .before .before .before .before .args) .g) 0 (iter (on ahead (44 ∷ 51 ∷ 46 ∷ 49 ∷ 53 ∷ 57 ∷ []) ((plus 1 ⨾ suffix′) ⨾ again′) empty))) f1 z (omega arith))) ((c .before .before .put2) .ensures ∙ ap (λ (w : List ℕ). sets w (((c .before .before .before .before .before .before .before .before .before .before .before .before .before .before .before .before .before .before .before .before .before .before .before .before .args) .used) * 4) (words 29 ((c .before .before .before .before .before .before .before .before .before .before .before .before .before .before .loop) .n) 0 (((c .before .before .before .before .before .before .before .before .before .before .before .before .before .before .loop) .u) - ((c .before .before .before .before .before .before .before .before .before .before .before .before .before .before .before .before .before .before .before .before .before .before .before .before .args) .used)))) (x .1)) refl in
-    (f, parts-last (under ((c .before .before .before .before .before .before .before .before .before .before .before .before .before .before .before .before .before .before .before .before .before .before .before .before .args) .stream .now) ((c .before .before .before .before .before .before .before .before .before .before .before .before .before .before .before .before .before .before .before .before .before .before .before .before .args) .ranking) 0 ((c .before .before .before .before .before .before .before .before .before .before .before .before .before .before .before .before .before .before .before .before .before .before .before .before .args) .g) 0 (iter (on ahead (44 ∷ 51 ∷ 46 ∷ 49 ∷ 53 ∷ 57 ∷ []) ((plus 1 ⨾ suffix′) ⨾ again′) empty))) f1 ((c .before .before .before .before .before .before .before .before .before .before .before .before .before .before .loop) .inv .4 .0) ((c .before .before .before .before .before .before .before .before .before .before .before .t) .given .0 .1 .0) q 29 unlined (((c .before .before .before .before .before .before .before .before .before .before .before .before .before .before .before .before .before .before .before .before .before .before .before .before .args) .c) .place) f ((c .before .before .before .before .before .before .before .before .before .before .before .before .before .before .before .before .d) .given .0 .1 .1 .0) ((c .before .before .before .before .before .before .before .before .before .before .before .before .before .before .loop) .last) (x1 .1) (((c .before .before .before .before .before .before .before .before .before .before .before .before .before .before .loop) .inv) .4 .1))
+    let z = ends (((c .before .before .before .before .before .before .before .before .before .before .before .before .before .before .loop) .inv) .4 .0) (looked _ ((c .before .before .before .before .before .before .before .before .before .before .before .before .before .before .loop) .u) 0 ((c .before .before .before .before .before .before .before .before .before .before .before .before .before .before .loop) .at) ((c .before .before .before .before .before .before .before .before .before .before .before .t) .given .0 .1 .0) q (look-place ((c .before .before .before .before .before .before .before .before .before .before .before .before .before .before .before .before .before .before .before .before .before .before .before .before .args) .stream .now) ((c .before .before .before .before .before .before .before .before .before .before .before .before .before .before .loop) .at) (sym ((c .before .before .before .before .before .before .before .before .before .before .before .before .before .look-ahead) .ensures) ∙ (c .before .before .before .before .before .before .before .before .before .before .before .t) .given .1)) (((c .before .before .before .before .before .before .before .before .before .before .before .before .before .before .loop) .inv) .1) (((c .before .before .before .before .before .before .before .before .before .before .before .before .before .before .loop) .inv) .2)) (omega arith) in
+    let f = over 29 unlined (((c .before .before .before .before .before .before .before .before .before .before .before .before .before .before .before .before .before .before .before .before .before .before .before .before .args) .c) .place) 0 (revalue {w = ((c .before .before .before .before .before .before .before .before .before .before .before .before .before .before .loop) .n)} (omega arith) (both (under ((c .before .before .before .before .before .before .before .before .before .before .before .before .before .before .before .before .before .before .before .before .before .before .before .before .args) .stream .now) ((c .before .before .before .before .before .before .before .before .before .before .before .before .before .before .before .before .before .before .before .before .before .before .before .before .args) .ranking) 0 ((c .before .before .before .before .before .before .before .before .before .before .before .before .before .before .before .before .before .before .before .before .before .before .before .before .args) .g) 0 (iter (on ahead (44 ∷ 51 ∷ 46 ∷ 49 ∷ 53 ∷ 57 ∷ []) ((plus 1 ⨾ suffix′) ⨾ again′) empty))) f1 z (omega arith))) ((c .before .before .put2) .ensures ∙ ap (λ (w : List ℕ). sets w (((c .before .before .before .before .before .before .before .before .before .before .before .before .before .before .before .before .before .before .before .before .before .before .before .before .args) .used) * 4) (words 29 ((c .before .before .before .before .before .before .before .before .before .before .before .before .before .before .loop) .n) 0 (((c .before .before .before .before .before .before .before .before .before .before .before .before .before .before .loop) .u) - ((c .before .before .before .before .before .before .before .before .before .before .before .before .before .before .before .before .before .before .before .before .before .before .before .before .args) .used)))) (x .1)) refl in
+    (f, parts-last (under ((c .before .before .before .before .before .before .before .before .before .before .before .before .before .before .before .before .before .before .before .before .before .before .before .before .args) .stream .now) ((c .before .before .before .before .before .before .before .before .before .before .before .before .before .before .before .before .before .before .before .before .before .before .before .before .args) .ranking) 0 ((c .before .before .before .before .before .before .before .before .before .before .before .before .before .before .before .before .before .before .before .before .before .before .before .before .args) .g) 0 (iter (on ahead (44 ∷ 51 ∷ 46 ∷ 49 ∷ 53 ∷ 57 ∷ []) ((plus 1 ⨾ suffix′) ⨾ again′) empty))) f1 (((c .before .before .before .before .before .before .before .before .before .before .before .before .before .before .loop) .inv) .4 .0) ((c .before .before .before .before .before .before .before .before .before .before .before .t) .given .0 .1 .0) q 29 unlined (((c .before .before .before .before .before .before .before .before .before .before .before .before .before .before .before .before .before .before .before .before .before .before .before .before .args) .c) .place) f ((c .before .before .before .before .before .before .before .before .before .before .before .before .before .before .before .before .d) .given .0 .1 .1 .0) ((c .before .before .before .before .before .before .before .before .before .before .before .before .before .before .loop) .last) (x1 .1) (((c .before .before .before .before .before .before .before .before .before .before .before .before .before .before .loop) .inv) .4 .1))
 
 pub suffixed-enum-known-e-3 : (t : ℕ) → suffixed-lts.Need-enum-known-e-3 (
   primary-below t,
@@ -394,7 +390,7 @@ pub suffixed-same-length-4 : (t : ℕ) → suffixed-lts.Need-same-length-4 (
   suffix-below t,
   suffix.Post,
 ) (suffixed-at t) suffixed.Post suffixed-Inv-loop suffixed-μ-loop
-suffixed-same-length-4 t c = (c .before .before .before .before .before .suffix) .kept .1 .0 ∙ going-length ((c .before .before .before .before .before .before .before .before .before .before .before .loop) .inv .4 .0) ∙ (c .before .before .before .before .before .before .before .before .before .before .before .before .before .before .before .before .before .primary) .kept .1 .0
+suffixed-same-length-4 t c = (c .before .before .before .before .before .suffix) .kept .1 .0 ∙ going-length (((c .before .before .before .before .before .before .before .before .before .before .before .loop) .inv) .4 .0) ∙ (c .before .before .before .before .before .before .before .before .before .before .before .before .before .before .before .before .before .primary) .kept .1 .0
 
 pub suffixed-returns-4 : (t : ℕ) → suffixed-lts.Need-returns-4 (
   primary-below t,
@@ -412,4 +408,4 @@ suffixed-returns-4 t c =
     let f1 = x1 .0 in
     let x = rw ((c .before .e3) .given .1) at ((c .before .before .before .before .before .suffix) .ensures) in
     let e0 = looping ((c .before .before .before .before .before .before .before .before .before .before .before .before .before .before .before .before .before .before .before .before .before .args) .stream .now) ((c .before .before .before .before .before .before .before .before .before .before .before .before .before .before .before .before .before .before .before .before .before .args) .ranking) 0 ((c .before .before .before .before .before .before .before .before .before .before .before .before .before .before .before .before .before .before .before .before .before .args) .g) 0 (on ahead (44 ∷ 51 ∷ 46 ∷ 49 ∷ 53 ∷ 57 ∷ []) ((plus 1 ⨾ suffix′) ⨾ again′) empty) refl ((c .before .before .before .before .before .before .before .before .before .before .before .loop) .at) (((c .before .before .before .before .before .before .before .before .before .before .before .loop) .inv) .1) ∙ look-in ((c .before .before .before .before .before .before .before .before .before .before .before .before .before .before .before .before .before .before .before .before .before .args) .stream .now) (ranks ((c .before .before .before .before .before .before .before .before .before .before .before .before .before .before .before .before .before .before .before .before .before .args) .ranking)) 0 (readers ((c .before .before .before .before .before .before .before .before .before .before .before .before .before .before .before .before .before .before .before .before .before .args) .stream .now) (ranks ((c .before .before .before .before .before .before .before .before .before .before .before .before .before .before .before .before .before .before .before .before .before .args) .ranking)) ((c .before .before .before .before .before .before .before .before .before .before .before .before .before .before .before .before .before .before .before .before .before .args) .g)) (hold 0 0 none) (under ((c .before .before .before .before .before .before .before .before .before .before .before .before .before .before .before .before .before .before .before .before .before .args) .stream .now) ((c .before .before .before .before .before .before .before .before .before .before .before .before .before .before .before .before .before .before .before .before .before .args) .ranking) 0 ((c .before .before .before .before .before .before .before .before .before .before .before .before .before .before .before .before .before .before .before .before .before .args) .g) 0 (iter (on ahead (44 ∷ 51 ∷ 46 ∷ 49 ∷ 53 ∷ 57 ∷ []) ((plus 1 ⨾ suffix′) ⨾ again′) empty))) ((c .before .before .before .before .before .before .before .before .before .before .before .loop) .at) (44 ∷ 51 ∷ 46 ∷ 49 ∷ 53 ∷ 57 ∷ []) ((plus 1 ⨾ suffix′) ⨾ again′) empty (sym ((c .before .before .before .before .before .before .before .before .before .before .look-ahead) .ensures) ∙ (c .before .before .before .before .before .before .before .before .t) .given .1) (x .0) in
-    ap (wrap ((c .before .before .before .before .before .before .before .before .before .before .before .before .before .before .before .before .before .before .before .before .before .args) .stream .now) 29 unlined (((c .before .before .before .before .before .before .before .before .before .before .before .before .before .before .before .before .before .before .before .before .before .args) .c) .place)) (past (under ((c .before .before .before .before .before .before .before .before .before .before .before .before .before .before .before .before .before .before .before .before .before .args) .stream .now) ((c .before .before .before .before .before .before .before .before .before .before .before .before .before .before .before .before .before .before .before .before .before .args) .ranking) 0 ((c .before .before .before .before .before .before .before .before .before .before .before .before .before .before .before .before .before .before .before .before .before .args) .g) 0 (iter (on ahead (44 ∷ 51 ∷ 46 ∷ 49 ∷ 53 ∷ 57 ∷ []) ((plus 1 ⨾ suffix′) ⨾ again′) empty))) f1 (fails ((c .before .before .before .before .before .before .before .before .before .before .before .loop) .inv .4 .0) (e0 ∙ stop (under ((c .before .before .before .before .before .before .before .before .before .before .before .before .before .before .before .before .before .before .before .before .before .args) .stream .now) ((c .before .before .before .before .before .before .before .before .before .before .before .before .before .before .before .before .before .before .before .before .before .args) .ranking) 0 ((c .before .before .before .before .before .before .before .before .before .before .before .before .before .before .before .before .before .before .before .before .before .args) .g) 0 (iter (on ahead (44 ∷ 51 ∷ 46 ∷ 49 ∷ 53 ∷ 57 ∷ []) ((plus 1 ⨾ suffix′) ⨾ again′) empty))) (ap (add none 1) ((settled ((c .before .before .before .before .before .before .before .before .before .before .before .before .before .before .before .before .before .before .before .before .before .args) .stream .now) ((c .before .before .before .before .before .before .before .before .before .before .before .before .before .before .before .before .before .before .before .before .before .args) .ranking) 0 ((c .before .before .before .before .before .before .before .before .before .before .before .before .before .before .before .before .before .before .before .before .before .args) .g) (hold 0 0 none) (under ((c .before .before .before .before .before .before .before .before .before .before .before .before .before .before .before .before .before .before .before .before .before .args) .stream .now) ((c .before .before .before .before .before .before .before .before .before .before .before .before .before .before .before .before .before .before .before .before .before .args) .ranking) 0 ((c .before .before .before .before .before .before .before .before .before .before .before .before .before .before .before .before .before .before .before .before .before .args) .g) 0 (iter (on ahead (44 ∷ 51 ∷ 46 ∷ 49 ∷ 53 ∷ 57 ∷ []) ((plus 1 ⨾ suffix′) ⨾ again′) empty))) suffix′ refl ((c .before .before .before .before .before .before .before .before .t) .given .0 .1 .0)) ∙ x .1)))))
+    ap (wrap ((c .before .before .before .before .before .before .before .before .before .before .before .before .before .before .before .before .before .before .before .before .before .args) .stream .now) 29 unlined (((c .before .before .before .before .before .before .before .before .before .before .before .before .before .before .before .before .before .before .before .before .before .args) .c) .place)) (past (under ((c .before .before .before .before .before .before .before .before .before .before .before .before .before .before .before .before .before .before .before .before .before .args) .stream .now) ((c .before .before .before .before .before .before .before .before .before .before .before .before .before .before .before .before .before .before .before .before .before .args) .ranking) 0 ((c .before .before .before .before .before .before .before .before .before .before .before .before .before .before .before .before .before .before .before .before .before .args) .g) 0 (iter (on ahead (44 ∷ 51 ∷ 46 ∷ 49 ∷ 53 ∷ 57 ∷ []) ((plus 1 ⨾ suffix′) ⨾ again′) empty))) f1 (fails (((c .before .before .before .before .before .before .before .before .before .before .before .loop) .inv) .4 .0) (e0 ∙ stop (under ((c .before .before .before .before .before .before .before .before .before .before .before .before .before .before .before .before .before .before .before .before .before .args) .stream .now) ((c .before .before .before .before .before .before .before .before .before .before .before .before .before .before .before .before .before .before .before .before .before .args) .ranking) 0 ((c .before .before .before .before .before .before .before .before .before .before .before .before .before .before .before .before .before .before .before .before .before .args) .g) 0 (iter (on ahead (44 ∷ 51 ∷ 46 ∷ 49 ∷ 53 ∷ 57 ∷ []) ((plus 1 ⨾ suffix′) ⨾ again′) empty))) (ap (add none 1) ((settled ((c .before .before .before .before .before .before .before .before .before .before .before .before .before .before .before .before .before .before .before .before .before .args) .stream .now) ((c .before .before .before .before .before .before .before .before .before .before .before .before .before .before .before .before .before .before .before .before .before .args) .ranking) 0 ((c .before .before .before .before .before .before .before .before .before .before .before .before .before .before .before .before .before .before .before .before .before .args) .g) (hold 0 0 none) (under ((c .before .before .before .before .before .before .before .before .before .before .before .before .before .before .before .before .before .before .before .before .before .args) .stream .now) ((c .before .before .before .before .before .before .before .before .before .before .before .before .before .before .before .before .before .before .before .before .before .args) .ranking) 0 ((c .before .before .before .before .before .before .before .before .before .before .before .before .before .before .before .before .before .before .before .before .before .args) .g) 0 (iter (on ahead (44 ∷ 51 ∷ 46 ∷ 49 ∷ 53 ∷ 57 ∷ []) ((plus 1 ⨾ suffix′) ⨾ again′) empty))) suffix′ refl ((c .before .before .before .before .before .before .before .before .t) .given .0 .1 .0)) ∙ x .1)))))

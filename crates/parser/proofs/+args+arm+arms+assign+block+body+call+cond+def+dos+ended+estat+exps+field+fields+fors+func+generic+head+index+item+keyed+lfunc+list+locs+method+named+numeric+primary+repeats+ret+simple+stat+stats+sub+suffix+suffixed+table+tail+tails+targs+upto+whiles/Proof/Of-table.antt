@@ -19,7 +19,7 @@ use Rattle.grammar.specs.Term.{unlined}
 use Rattle.parser.specs.Contract.{again}
 use Rattle.stream.proofs.Words.{few}
 use Rattle.parser.proofs.Steps.{took-kind}
-use Rattle.parser.proofs.Kit.{revalue, kept, stop, past, both, over}
+use Rattle.parser.proofs.Kit.{kept, revalue, stop, past, both, over}
 use Rattle.parser.proofs.Tokens.{ready-after, word-fail, word-fine}
 use Rattle.grammar.specs.Productions.{table as table′}
 
@@ -82,7 +82,7 @@ pub table-fields-requires : (t : ℕ) → table-lts.Need-fields-requires (
   close-reads.Asked,
   close-reads.Learnt,
 ) (table-at t) table.Post
-table-fields-requires t c κs = (omega (arith, (c .before .before .before .before .before .before .before .pre) .0), ready-after (((c .before .before .before .before .before .before .before .args) .used) + 1) 0 (((c .before .before .before .before .before .before .before .pre) .1) .formed) (took-kind ((c .before .before .before .before .before .before .before .args) .stream .now) ((c .before .before .before .before .before .before .before .args) .c) 53 ((sym ((c .before .before .before .before .expect-next) .ensures)) ∙ (c .before .before .d) .given .1) .0) (omega (arith, ((c .before .before .before .before .before .before .before .pre) .1) .room)))
+table-fields-requires t c κs = (omega (arith, (c .before .before .before .before .before .before .before .pre) .0), ready-after (((c .before .before .before .before .before .before .before .pre) .1) .formed) (took-kind ((c .before .before .before .before .before .before .before .args) .stream .now) ((c .before .before .before .before .before .before .before .args) .c) 53 ((sym ((c .before .before .before .before .expect-next) .ensures)) ∙ (c .before .before .d) .given .1)) (omega (arith, ((c .before .before .before .before .before .before .before .pre) .1) .room)))
 
 pub table-enum-known-e-2 : (t : ℕ) → table-lts.Need-enum-known-e-2 (
   expect-next-reads.Asked,

@@ -14,14 +14,13 @@ use Prim.Native.Nat.{ℕ, _+_, _-_}
 use native.Mathlib.Omega.{arith}
 use Rattle.operators.specs.Ranks.{ranks}
 use Rattle.tree.specs.Forest.{none}
-use Rattle.grammar.specs.Reading.{read, hold, wrap}
+use Rattle.grammar.specs.Reading.{read, hold, wrap, add}
 use Rattle.grammar.specs.Levels.{readers}
 use Rattle.grammar.specs.Term.{unlined}
-use Rattle.grammar.specs.Term.{operand}
 use Rattle.parser.specs.Contract.{again}
 use Rattle.stream.proofs.Words.{few}
 use Rattle.parser.proofs.Steps.{took-next}
-use Rattle.parser.proofs.Kit.{alter, revalue, kept, weighs, stop, past, both, over}
+use Rattle.parser.proofs.Kit.{kept, alter, revalue, weighed, stop, past, both, over}
 use Rattle.parser.proofs.Tokens.{ready-after, any-fail, any-fine}
 use Rattle.stream.specs.Words.{kind}
 use Rattle.operators.specs.Ranks.{code}
@@ -74,7 +73,7 @@ pub tail-sub-requires : (t : ℕ) → tail-lts.Need-sub-requires (
   close-reads.Asked,
   close-reads.Learnt,
 ) (tail-at t) tail.Post
-tail-sub-requires t c κs = (omega (arith, (c .before .before .before .before .before .before .before .pre) .0), ready-after (((c .before .before .before .before .before .before .before .args) .used) + 1) 1 (((c .before .before .before .before .before .before .before .pre) .1 .0) .formed) (took-next ((c .before .before .before .before .before .before .before .args) .stream .now) ((c .before .before .before .before .before .before .before .args) .c) ((sym ((c .before .before .before .before .take-next) .ensures)) ∙ (c .before .before .d) .given .1)) (omega (arith, ((c .before .before .before .before .before .before .before .pre) .1 .0) .room)))
+tail-sub-requires t c κs = (omega (arith, (c .before .before .before .before .before .before .before .pre) .0), ready-after (((c .before .before .before .before .before .before .before .pre) .1 .0) .formed) (took-next ((c .before .before .before .before .before .before .before .args) .stream .now) ((c .before .before .before .before .before .before .before .args) .c) ((sym ((c .before .before .before .before .take-next) .ensures)) ∙ (c .before .before .d) .given .1)) (omega (arith, ((c .before .before .before .before .before .before .before .pre) .1 .0) .room)))
 
 pub tail-enum-known-e-2 : (t : ℕ) → tail-lts.Need-enum-known-e-2 (
   take-next-reads.Asked,
@@ -144,9 +143,8 @@ tail-returns-2 t c =
     let p : ((c .before .before .before .before .before .before .before .before .before .before .before .before .before .args) .c) .place ≡ ((c .before .before .before .before .before .before .before .before .d) .given .0 .1 .0) .place - 1 = omega (arith, a .place) in
     let q = (c .before .before .before .before .before .before .before .before .before .before .before .before .before .pre) .1 .1 ∙ ap (λ (z : ℕ). ranks ((c .before .before .before .before .before .before .before .before .before .before .before .before .before .args) .ranking) .right (kind ((c .before .before .before .before .before .before .before .before .before .before .before .before .before .args) .stream .now) z)) p in
     let x = ap (λ (z : ℕ). readers ((c .before .before .before .before .before .before .before .before .before .before .before .before .before .args) .stream .now) (ranks ((c .before .before .before .before .before .before .before .before .before .before .before .before .before .args) .ranking)) ((c .before .before .before .before .before .before .before .before .before .before .before .before .before .args) .g) .exps z (((c .before .before .before .before .before .before .before .before .d) .given .0 .1 .0) .place) (((c .before .before .before .before .before .before .before .before .d) .given .0 .1 .0) .mark)) (sym q) in
-    let f2 = weighs {s = ((c .before .before .before .before .before .before .before .before .before .before .before .before .before .args) .stream .now)} ((c .before .before .before .before .before .before .before .before .before .before .before .before .before .args) .nodes .now) (((c .before .before .before .before .before .before .before .before .before .before .before .before .before .args) .used) + 1) 1 (code (kind ((c .before .before .before .before .before .before .before .before .before .before .before .before .before .args) .stream .now) (((c .before .before .before .before .before .before .before .before .d) .given .0 .1 .0) .place - 1))) ((c .before .before .before .before .before .before .before .before .d) .given .0 .1 .0) (f1 .at) (f1 .room) in
     let y = rw ((c .before .e2) .given .1) at ((c .before .before .before .before .before .sub) .ensures) in
-    ap (wrap ((c .before .before .before .before .before .before .before .before .before .before .before .before .before .args) .stream .now) 19 unlined (((c .before .before .before .before .before .before .before .before .before .before .before .before .before .args) .c) .place)) (past _ f1 (past (read ((c .before .before .before .before .before .before .before .before .before .before .before .before .before .args) .stream .now) (ranks ((c .before .before .before .before .before .before .before .before .before .before .before .before .before .args) .ranking)) 0 (readers ((c .before .before .before .before .before .before .before .before .before .before .before .before .before .args) .stream .now) (ranks ((c .before .before .before .before .before .before .before .before .before .before .before .before .before .args) .ranking)) ((c .before .before .before .before .before .before .before .before .before .before .before .before .before .args) .g)) (hold 0 0 none) operand again) f2 (x ∙ y)))
+    ap (wrap ((c .before .before .before .before .before .before .before .before .before .before .before .before .before .args) .stream .now) 19 unlined (((c .before .before .before .before .before .before .before .before .before .before .before .before .before .args) .c) .place)) (past _ f1 (ap (add none (code (kind ((c .before .before .before .before .before .before .before .before .before .before .before .before .before .args) .stream .now) (((c .before .before .before .before .before .before .before .before .d) .given .0 .1 .0) .place - 1)))) (x ∙ y)))
 
 pub tail-same-length-2 : (t : ℕ) → tail-lts.Need-same-length-2 (
   take-next-reads.Asked,
@@ -173,8 +171,6 @@ tail-returns-3 t c =
     let p : ((c .before .before .before .before .before .before .before .before .before .before .before .before .before .before .before .before .before .args) .c) .place ≡ ((c .before .before .before .before .before .before .before .before .before .before .before .before .d) .given .0 .1 .0) .place - 1 = omega (arith, a .place) in
     let q = (c .before .before .before .before .before .before .before .before .before .before .before .before .before .before .before .before .before .pre) .1 .1 ∙ ap (λ (z : ℕ). ranks ((c .before .before .before .before .before .before .before .before .before .before .before .before .before .before .before .before .before .args) .ranking) .right (kind ((c .before .before .before .before .before .before .before .before .before .before .before .before .before .before .before .before .before .args) .stream .now) z)) p in
     let x = ap (λ (z : ℕ). readers ((c .before .before .before .before .before .before .before .before .before .before .before .before .before .before .before .before .before .args) .stream .now) (ranks ((c .before .before .before .before .before .before .before .before .before .before .before .before .before .before .before .before .before .args) .ranking)) ((c .before .before .before .before .before .before .before .before .before .before .before .before .before .before .before .before .before .args) .g) .exps z (((c .before .before .before .before .before .before .before .before .before .before .before .before .d) .given .0 .1 .0) .place) (((c .before .before .before .before .before .before .before .before .before .before .before .before .d) .given .0 .1 .0) .mark)) (sym q) in
-    let f2 = weighs {s = ((c .before .before .before .before .before .before .before .before .before .before .before .before .before .before .before .before .before .args) .stream .now)} ((c .before .before .before .before .before .before .before .before .before .before .before .before .before .before .before .before .before .args) .nodes .now) (((c .before .before .before .before .before .before .before .before .before .before .before .before .before .before .before .before .before .args) .used) + 1) 1 (code (kind ((c .before .before .before .before .before .before .before .before .before .before .before .before .before .before .before .before .before .args) .stream .now) (((c .before .before .before .before .before .before .before .before .before .before .before .before .d) .given .0 .1 .0) .place - 1))) ((c .before .before .before .before .before .before .before .before .before .before .before .before .d) .given .0 .1 .0) (f1 .at) (f1 .room) in
     let f3 = rw ((c .before .before .before .before .before .e3) .given .1) at ((c .before .before .before .before .before .before .before .before .before .sub) .ensures) in
     let o = (c .before .before .before .before .before .before .before .before .before .before .before .before .before .before .before .before .before .pre) .1 .2 ∙ ap (λ (z : ℕ). code (kind ((c .before .before .before .before .before .before .before .before .before .before .before .before .before .before .before .before .before .args) .stream .now) z)) p in
-    let f23 = both (read ((c .before .before .before .before .before .before .before .before .before .before .before .before .before .before .before .before .before .args) .stream .now) (ranks ((c .before .before .before .before .before .before .before .before .before .before .before .before .before .before .before .before .before .args) .ranking)) 0 (readers ((c .before .before .before .before .before .before .before .before .before .before .before .before .before .before .before .before .before .args) .stream .now) (ranks ((c .before .before .before .before .before .before .before .before .before .before .before .before .before .before .before .before .before .args) .ranking)) ((c .before .before .before .before .before .before .before .before .before .before .before .before .before .before .before .before .before .args) .g)) (hold 0 0 none) operand again) f2 (alter x f3) (omega arith) in
-    rw ((c .before .before .close) .ensures .0) (over 19 unlined (((c .before .before .before .before .before .before .before .before .before .before .before .before .before .before .before .before .before .args) .c) .place) 0 (revalue (omega (arith, o)) (both _ f1 f23 (omega arith))) ((c .before .before .close) .ensures .1) refl)
+    rw ((c .before .before .close) .ensures .0) (over 19 unlined (((c .before .before .before .before .before .before .before .before .before .before .before .before .before .before .before .before .before .args) .c) .place) 0 (revalue (omega (arith, o)) (both _ f1 (weighed (code (kind ((c .before .before .before .before .before .before .before .before .before .before .before .before .before .before .before .before .before .args) .stream .now) (((c .before .before .before .before .before .before .before .before .before .before .before .before .d) .given .0 .1 .0) .place - 1))) (alter x f3)) (omega arith))) ((c .before .before .close) .ensures .1) refl)

@@ -23,14 +23,12 @@ use Rattle.grammar.specs.Term.{again as again′}
 use Rattle.parser.specs.Contract.{under}
 use Rattle.parser.specs.Parts as P
 use Rattle.stream.proofs.Words.{few}
-use Rattle.parser.proofs.Steps.{taken}
-use Rattle.parser.proofs.Kit.{alter, revalue, kept, looked, weighs, stop, past, Going, begin, going-length, fails, ends, revalue-going, goes}
-use Rattle.parser.proofs.Tokens.{looping, look-place, end-place}
-use Rattle.parser.proofs.Looks.{settled}
+use Rattle.parser.proofs.Steps.{look-place, end-place, saw-kind}
+use Rattle.parser.proofs.Kit.{kept, alter, revalue, looked, weighs, Going, begin, revalue-going, going-length, fails, ends, goes, stop, past}
+use Rattle.parser.proofs.Around.{looping, settled}
+use Rattle.parser.proofs.Heads.{operator-in, operator-out, operator-end}
 use Rattle.grammar.specs.Productions.{tail as tail′, tails as tails′}
-use Rattle.stream.specs.Words.{kind}
 use Rattle.operators.specs.Ranks.{code}
-use Rattle.parser.proofs.Heads.{operator-in, operator-out, operator-end, saw-kind}
 use Rattle.operators.proofs.Laws.{binary-found, binary-none, end-left}
 use Rattle.operators.specs.declared.Priority.{Priority}
 
@@ -86,7 +84,7 @@ pub tails-same-length : (t : ℕ) → tails-lts.Need-same-length (
   tail-below t,
   tail.Post,
 ) (tails-at t) tails.Post tails-Inv-loop tails-μ-loop
-tails-same-length t c = going-length ((c .before .before .before .before .loop) .inv .4)
+tails-same-length t c = going-length (((c .before .before .before .before .loop) .inv) .4)
 
 pub tails-returns : (t : ℕ) → tails-lts.Need-returns (
   look-ahead-reads.Asked,
@@ -100,10 +98,9 @@ pub tails-returns : (t : ℕ) → tails-lts.Need-returns (
 ) (tails-at t) tails.Post tails-Inv-loop tails-μ-loop
 unfolding read tail′ tails′
 tails-returns t c =
-    let x = sym ((c .before .before .before .look-ahead) .ensures) ∙ (c .before .d) .given .1 in
-    let e = looping ((c .before .before .before .before .before .before .before .args) .stream .now) ((c .before .before .before .before .before .before .before .args) .ranking) ((c .before .before .before .before .before .before .before .args) .limit) ((c .before .before .before .before .before .before .before .args) .g) 0 tail′ refl ((c .before .before .before .before .loop) .at) (((c .before .before .before .before .loop) .inv) .1) ∙ operator-end ((c .before .before .before .before .before .before .before .args) .stream .now) (ranks ((c .before .before .before .before .before .before .before .args) .ranking)) ((c .before .before .before .before .before .before .before .args) .limit) (readers ((c .before .before .before .before .before .before .before .args) .stream .now) (ranks ((c .before .before .before .before .before .before .before .args) .ranking)) ((c .before .before .before .before .before .before .before .args) .g)) (hold 0 0 none) (under ((c .before .before .before .before .before .before .before .args) .stream .now) ((c .before .before .before .before .before .before .before .args) .ranking) ((c .before .before .before .before .before .before .before .args) .limit) ((c .before .before .before .before .before .before .before .args) .g) 0 (iter tail′)) ((c .before .before .before .before .loop) .at) (plus 1 ⨾ P.operation ⨾ again′) empty x (end-left ((c .before .before .before .before .before .before .before .args) .ranking)) in
-    let p = end-place ((c .before .before .before .before .before .before .before .args) .stream .now) ((c .before .before .before .before .loop) .at) x in
-    (revalue (omega arith) (ends ((c .before .before .before .before .loop) .inv .4) (looked _ ((c .before .before .before .before .loop) .u) 0 ((c .before .before .before .before .loop) .at) ((c .before .d) .given .0 .0) e p (((c .before .before .before .before .loop) .inv) .1) (((c .before .before .before .before .loop) .inv) .2)) (omega arith)), omega (arith, p, ((c .before .before .before .before .loop) .inv) .3))
+    let e = looping ((c .before .before .before .before .before .before .before .args) .stream .now) ((c .before .before .before .before .before .before .before .args) .ranking) ((c .before .before .before .before .before .before .before .args) .limit) ((c .before .before .before .before .before .before .before .args) .g) 0 tail′ refl ((c .before .before .before .before .loop) .at) (((c .before .before .before .before .loop) .inv) .1) ∙ operator-end ((c .before .before .before .before .before .before .before .args) .stream .now) (ranks ((c .before .before .before .before .before .before .before .args) .ranking)) ((c .before .before .before .before .before .before .before .args) .limit) (readers ((c .before .before .before .before .before .before .before .args) .stream .now) (ranks ((c .before .before .before .before .before .before .before .args) .ranking)) ((c .before .before .before .before .before .before .before .args) .g)) (hold 0 0 none) (under ((c .before .before .before .before .before .before .before .args) .stream .now) ((c .before .before .before .before .before .before .before .args) .ranking) ((c .before .before .before .before .before .before .before .args) .limit) ((c .before .before .before .before .before .before .before .args) .g) 0 (iter tail′)) ((c .before .before .before .before .loop) .at) (plus 1 ⨾ P.operation ⨾ again′) empty (sym ((c .before .before .before .look-ahead) .ensures) ∙ (c .before .d) .given .1) (end-left ((c .before .before .before .before .before .before .before .args) .ranking)) in
+    let p = end-place ((c .before .before .before .before .before .before .before .args) .stream .now) ((c .before .before .before .before .loop) .at) (sym ((c .before .before .before .look-ahead) .ensures) ∙ (c .before .d) .given .1) in
+    (revalue (omega arith) (ends (((c .before .before .before .before .loop) .inv) .4) (looked _ ((c .before .before .before .before .loop) .u) 0 ((c .before .before .before .before .loop) .at) ((c .before .d) .given .0 .0) e p (((c .before .before .before .before .loop) .inv) .1) (((c .before .before .before .before .loop) .inv) .2)) (omega arith)), omega (arith, p, ((c .before .before .before .before .loop) .inv) .3))
 
 pub tails-enum-known-t : (t : ℕ) → tails-lts.Need-enum-known-t (
   look-ahead-reads.Asked,
@@ -151,7 +148,7 @@ pub tails-same-length-2 : (t : ℕ) → tails-lts.Need-same-length-2 (
   tail-below t,
   tail.Post,
 ) (tails-at t) tails.Post tails-Inv-loop tails-μ-loop
-tails-same-length-2 t c = going-length ((c .before .before .before .before .before .before .before .loop) .inv .4)
+tails-same-length-2 t c = going-length (((c .before .before .before .before .before .before .before .loop) .inv) .4)
 
 pub tails-returns-2 : (t : ℕ) → tails-lts.Need-returns-2 (
   look-ahead-reads.Asked,
@@ -165,9 +162,9 @@ pub tails-returns-2 : (t : ℕ) → tails-lts.Need-returns-2 (
 ) (tails-at t) tails.Post tails-Inv-loop tails-μ-loop
 unfolding read tail′ tails′
 tails-returns-2 t c =
-    let w : ranks ((c .before .before .before .before .before .before .before .before .before .before .args) .ranking) .left ((c .before .before .before .before .t) .given .0 .0 .kind) ≤ ((c .before .before .before .before .before .before .before .before .before .before .args) .limit) = omega (arith, binary-none ((c .before .before .before .before .before .before .before .before .before .before .args) .ranking) ((c .before .before .before .before .t) .given .0 .0 .kind) (sym ((c .before .before .get-binary-operator) .ensures) ∙ (c .enum-told) .given .1)) in
+    let w : ranks ((c .before .before .before .before .before .before .before .before .before .before .args) .ranking) .left (((c .before .before .before .before .t) .given .0 .0) .kind) ≤ ((c .before .before .before .before .before .before .before .before .before .before .args) .limit) = omega (arith, binary-none ((c .before .before .before .before .before .before .before .before .before .before .args) .ranking) (((c .before .before .before .before .t) .given .0 .0) .kind) (sym ((c .before .before .get-binary-operator) .ensures) ∙ (c .enum-told) .given .1)) in
     let e = looping ((c .before .before .before .before .before .before .before .before .before .before .args) .stream .now) ((c .before .before .before .before .before .before .before .before .before .before .args) .ranking) ((c .before .before .before .before .before .before .before .before .before .before .args) .limit) ((c .before .before .before .before .before .before .before .before .before .before .args) .g) 0 tail′ refl ((c .before .before .before .before .before .before .before .loop) .at) (((c .before .before .before .before .before .before .before .loop) .inv) .1) ∙ operator-out ((c .before .before .before .before .before .before .before .before .before .before .args) .stream .now) (ranks ((c .before .before .before .before .before .before .before .before .before .before .args) .ranking)) ((c .before .before .before .before .before .before .before .before .before .before .args) .limit) (readers ((c .before .before .before .before .before .before .before .before .before .before .args) .stream .now) (ranks ((c .before .before .before .before .before .before .before .before .before .before .args) .ranking)) ((c .before .before .before .before .before .before .before .before .before .before .args) .g)) (hold 0 0 none) (under ((c .before .before .before .before .before .before .before .before .before .before .args) .stream .now) ((c .before .before .before .before .before .before .before .before .before .before .args) .ranking) ((c .before .before .before .before .before .before .before .before .before .before .args) .limit) ((c .before .before .before .before .before .before .before .before .before .before .args) .g) 0 (iter tail′)) ((c .before .before .before .before .before .before .before .loop) .at) (plus 1 ⨾ P.operation ⨾ again′) empty (sym ((c .before .before .before .before .before .before .look-ahead) .ensures) ∙ (c .before .before .before .before .t) .given .1) w in
-    (revalue (omega arith) (ends ((c .before .before .before .before .before .before .before .loop) .inv .4) (looked _ ((c .before .before .before .before .before .before .before .loop) .u) 0 ((c .before .before .before .before .before .before .before .loop) .at) ((c .before .before .before .before .t) .given .0 .1 .0) e (look-place ((c .before .before .before .before .before .before .before .before .before .before .args) .stream .now) ((c .before .before .before .before .before .before .before .loop) .at) (sym ((c .before .before .before .before .before .before .look-ahead) .ensures) ∙ (c .before .before .before .before .t) .given .1)) (((c .before .before .before .before .before .before .before .loop) .inv) .1) (((c .before .before .before .before .before .before .before .loop) .inv) .2)) (omega arith)), omega (arith, (look-place ((c .before .before .before .before .before .before .before .before .before .before .args) .stream .now) ((c .before .before .before .before .before .before .before .loop) .at) (sym ((c .before .before .before .before .before .before .look-ahead) .ensures) ∙ (c .before .before .before .before .t) .given .1)), ((c .before .before .before .before .before .before .before .loop) .inv) .3))
+    (revalue (omega arith) (ends (((c .before .before .before .before .before .before .before .loop) .inv) .4) (looked _ ((c .before .before .before .before .before .before .before .loop) .u) 0 ((c .before .before .before .before .before .before .before .loop) .at) ((c .before .before .before .before .t) .given .0 .1 .0) e (look-place ((c .before .before .before .before .before .before .before .before .before .before .args) .stream .now) ((c .before .before .before .before .before .before .before .loop) .at) (sym ((c .before .before .before .before .before .before .look-ahead) .ensures) ∙ (c .before .before .before .before .t) .given .1)) (((c .before .before .before .before .before .before .before .loop) .inv) .1) (((c .before .before .before .before .before .before .before .loop) .inv) .2)) (omega arith)), omega (arith, (look-place ((c .before .before .before .before .before .before .before .before .before .before .args) .stream .now) ((c .before .before .before .before .before .before .before .loop) .at) (sym ((c .before .before .before .before .before .before .look-ahead) .ensures) ∙ (c .before .before .before .before .t) .given .1)), ((c .before .before .before .before .before .before .before .loop) .inv) .3))
 
 pub tails-enum-known-op : (t : ℕ) → tails-lts.Need-enum-known-op (
   look-ahead-reads.Asked,
@@ -203,7 +200,7 @@ pub tails-same-length-3 : (t : ℕ) → tails-lts.Need-same-length-3 (
   tail-below t,
   tail.Post,
 ) (tails-at t) tails.Post tails-Inv-loop tails-μ-loop
-tails-same-length-3 t c = going-length ((c .before .before .before .before .before .before .before .before .before .before .before .loop) .inv .4)
+tails-same-length-3 t c = going-length (((c .before .before .before .before .before .before .before .before .before .before .before .loop) .inv) .4)
 
 pub tails-returns-3 : (t : ℕ) → tails-lts.Need-returns-3 (
   look-ahead-reads.Asked,
@@ -219,9 +216,9 @@ unfolding read tail′ tails′
 tails-returns-3 t c =
     let z : (c .before .before .binary-priority) .result .left ≤ ((c .before .before .before .before .before .before .before .before .before .before .before .before .before .before .args) .limit) = (c .if1) .taken in
     let q = (ap (λ (z : Priority). z .left) ((c .before .before .binary-priority) .ensures)) in
-    let w : ranks ((c .before .before .before .before .before .before .before .before .before .before .before .before .before .before .args) .ranking) .left ((c .before .before .before .before .before .before .before .before .t) .given .0 .0 .kind) ≤ ((c .before .before .before .before .before .before .before .before .before .before .before .before .before .before .args) .limit) = omega (arith, z, q) in
+    let w : ranks ((c .before .before .before .before .before .before .before .before .before .before .before .before .before .before .args) .ranking) .left (((c .before .before .before .before .before .before .before .before .t) .given .0 .0) .kind) ≤ ((c .before .before .before .before .before .before .before .before .before .before .before .before .before .before .args) .limit) = omega (arith, z, q) in
     let e = looping ((c .before .before .before .before .before .before .before .before .before .before .before .before .before .before .args) .stream .now) ((c .before .before .before .before .before .before .before .before .before .before .before .before .before .before .args) .ranking) ((c .before .before .before .before .before .before .before .before .before .before .before .before .before .before .args) .limit) ((c .before .before .before .before .before .before .before .before .before .before .before .before .before .before .args) .g) 0 tail′ refl ((c .before .before .before .before .before .before .before .before .before .before .before .loop) .at) (((c .before .before .before .before .before .before .before .before .before .before .before .loop) .inv) .1) ∙ operator-out ((c .before .before .before .before .before .before .before .before .before .before .before .before .before .before .args) .stream .now) (ranks ((c .before .before .before .before .before .before .before .before .before .before .before .before .before .before .args) .ranking)) ((c .before .before .before .before .before .before .before .before .before .before .before .before .before .before .args) .limit) (readers ((c .before .before .before .before .before .before .before .before .before .before .before .before .before .before .args) .stream .now) (ranks ((c .before .before .before .before .before .before .before .before .before .before .before .before .before .before .args) .ranking)) ((c .before .before .before .before .before .before .before .before .before .before .before .before .before .before .args) .g)) (hold 0 0 none) (under ((c .before .before .before .before .before .before .before .before .before .before .before .before .before .before .args) .stream .now) ((c .before .before .before .before .before .before .before .before .before .before .before .before .before .before .args) .ranking) ((c .before .before .before .before .before .before .before .before .before .before .before .before .before .before .args) .limit) ((c .before .before .before .before .before .before .before .before .before .before .before .before .before .before .args) .g) 0 (iter tail′)) ((c .before .before .before .before .before .before .before .before .before .before .before .loop) .at) (plus 1 ⨾ P.operation ⨾ again′) empty (sym ((c .before .before .before .before .before .before .before .before .before .before .look-ahead) .ensures) ∙ (c .before .before .before .before .before .before .before .before .t) .given .1) w in
-    (revalue (omega arith) (ends ((c .before .before .before .before .before .before .before .before .before .before .before .loop) .inv .4) (looked _ ((c .before .before .before .before .before .before .before .before .before .before .before .loop) .u) 0 ((c .before .before .before .before .before .before .before .before .before .before .before .loop) .at) ((c .before .before .before .before .before .before .before .before .t) .given .0 .1 .0) e (look-place ((c .before .before .before .before .before .before .before .before .before .before .before .before .before .before .args) .stream .now) ((c .before .before .before .before .before .before .before .before .before .before .before .loop) .at) (sym ((c .before .before .before .before .before .before .before .before .before .before .look-ahead) .ensures) ∙ (c .before .before .before .before .before .before .before .before .t) .given .1)) (((c .before .before .before .before .before .before .before .before .before .before .before .loop) .inv) .1) (((c .before .before .before .before .before .before .before .before .before .before .before .loop) .inv) .2)) (omega arith)), omega (arith, (look-place ((c .before .before .before .before .before .before .before .before .before .before .before .before .before .before .args) .stream .now) ((c .before .before .before .before .before .before .before .before .before .before .before .loop) .at) (sym ((c .before .before .before .before .before .before .before .before .before .before .look-ahead) .ensures) ∙ (c .before .before .before .before .before .before .before .before .t) .given .1)), ((c .before .before .before .before .before .before .before .before .before .before .before .loop) .inv) .3))
+    (revalue (omega arith) (ends (((c .before .before .before .before .before .before .before .before .before .before .before .loop) .inv) .4) (looked _ ((c .before .before .before .before .before .before .before .before .before .before .before .loop) .u) 0 ((c .before .before .before .before .before .before .before .before .before .before .before .loop) .at) ((c .before .before .before .before .before .before .before .before .t) .given .0 .1 .0) e (look-place ((c .before .before .before .before .before .before .before .before .before .before .before .before .before .before .args) .stream .now) ((c .before .before .before .before .before .before .before .before .before .before .before .loop) .at) (sym ((c .before .before .before .before .before .before .before .before .before .before .look-ahead) .ensures) ∙ (c .before .before .before .before .before .before .before .before .t) .given .1)) (((c .before .before .before .before .before .before .before .before .before .before .before .loop) .inv) .1) (((c .before .before .before .before .before .before .before .before .before .before .before .loop) .inv) .2)) (omega arith)), omega (arith, (look-place ((c .before .before .before .before .before .before .before .before .before .before .before .before .before .before .args) .stream .now) ((c .before .before .before .before .before .before .before .before .before .before .before .loop) .at) (sym ((c .before .before .before .before .before .before .before .before .before .before .look-ahead) .ensures) ∙ (c .before .before .before .before .before .before .before .before .t) .given .1)), ((c .before .before .before .before .before .before .before .before .before .before .before .loop) .inv) .3))
 
 pub tails-tail-requires : (t : ℕ) → tails-lts.Need-tail-requires (
   look-ahead-reads.Asked,
@@ -233,7 +230,7 @@ pub tails-tail-requires : (t : ℕ) → tails-lts.Need-tail-requires (
   tail-below t,
   tail.Post,
 ) (tails-at t) tails.Post tails-Inv-loop tails-μ-loop
-tails-tail-requires t c κs = (omega (arith, (c .before .before .before .before .before .before .before .before .before .before .before .before .before .before .before .pre) .0), (record { formed = ((c .before .before .before .before .before .before .before .before .before .before .before .before .loop) .inv) .0; at = omega (arith, ((c .before .before .before .before .before .before .before .before .before .before .before .before .loop) .inv) .1, (look-place ((c .before .before .before .before .before .before .before .before .before .before .before .before .before .before .before .args) .stream .now) ((c .before .before .before .before .before .before .before .before .before .before .before .before .loop) .at) (sym ((c .before .before .before .before .before .before .before .before .before .before .before .look-ahead) .ensures) ∙ (c .before .before .before .before .before .before .before .before .before .t) .given .1))); room = omega (arith, ((c .before .before .before .before .before .before .before .before .before .before .before .before .loop) .inv) .2, (look-place ((c .before .before .before .before .before .before .before .before .before .before .before .before .before .before .before .args) .stream .now) ((c .before .before .before .before .before .before .before .before .before .before .before .before .loop) .at) (sym ((c .before .before .before .before .before .before .before .before .before .before .before .look-ahead) .ensures) ∙ (c .before .before .before .before .before .before .before .before .before .t) .given .1))) }, ap (λ (z : Priority). z .right) ((c .before .before .before .binary-priority) .ensures) ∙ ap (ranks ((c .before .before .before .before .before .before .before .before .before .before .before .before .before .before .before .args) .ranking) .right) (saw-kind ((c .before .before .before .before .before .before .before .before .before .before .before .before .before .before .before .args) .stream .now) ((c .before .before .before .before .before .before .before .before .before .before .before .before .loop) .at) (sym ((c .before .before .before .before .before .before .before .before .before .before .before .look-ahead) .ensures) ∙ (c .before .before .before .before .before .before .before .before .before .t) .given .1)), sym (binary-found ((c .before .before .before .before .before .before .before .before .before .t) .given .0 .0 .kind) ((c .before .before .before .before .before .op) .given .0 .0) (sym ((c .before .before .before .before .before .before .before .get-binary-operator) .ensures) ∙ (c .before .before .before .before .before .op) .given .1)) ∙ ap code (saw-kind ((c .before .before .before .before .before .before .before .before .before .before .before .before .before .before .before .args) .stream .now) ((c .before .before .before .before .before .before .before .before .before .before .before .before .loop) .at) (sym ((c .before .before .before .before .before .before .before .before .before .before .before .look-ahead) .ensures) ∙ (c .before .before .before .before .before .before .before .before .before .t) .given .1))))
+tails-tail-requires t c κs = (omega (arith, (c .before .before .before .before .before .before .before .before .before .before .before .before .before .before .before .pre) .0), (record { formed = ((c .before .before .before .before .before .before .before .before .before .before .before .before .loop) .inv) .0; at = omega (arith, ((c .before .before .before .before .before .before .before .before .before .before .before .before .loop) .inv) .1, (look-place ((c .before .before .before .before .before .before .before .before .before .before .before .before .before .before .before .args) .stream .now) ((c .before .before .before .before .before .before .before .before .before .before .before .before .loop) .at) (sym ((c .before .before .before .before .before .before .before .before .before .before .before .look-ahead) .ensures) ∙ (c .before .before .before .before .before .before .before .before .before .t) .given .1))); room = omega (arith, ((c .before .before .before .before .before .before .before .before .before .before .before .before .loop) .inv) .2, (look-place ((c .before .before .before .before .before .before .before .before .before .before .before .before .before .before .before .args) .stream .now) ((c .before .before .before .before .before .before .before .before .before .before .before .before .loop) .at) (sym ((c .before .before .before .before .before .before .before .before .before .before .before .look-ahead) .ensures) ∙ (c .before .before .before .before .before .before .before .before .before .t) .given .1))) }, ap (λ (z : Priority). z .right) ((c .before .before .before .binary-priority) .ensures) ∙ ap (ranks ((c .before .before .before .before .before .before .before .before .before .before .before .before .before .before .before .args) .ranking) .right) (saw-kind ((c .before .before .before .before .before .before .before .before .before .before .before .before .before .before .before .args) .stream .now) ((c .before .before .before .before .before .before .before .before .before .before .before .before .loop) .at) (sym ((c .before .before .before .before .before .before .before .before .before .before .before .look-ahead) .ensures) ∙ (c .before .before .before .before .before .before .before .before .before .t) .given .1)), sym (binary-found (((c .before .before .before .before .before .before .before .before .before .t) .given .0 .0) .kind) ((c .before .before .before .before .before .op) .given .0 .0) (sym ((c .before .before .before .before .before .before .before .get-binary-operator) .ensures) ∙ (c .before .before .before .before .before .op) .given .1)) ∙ ap code (saw-kind ((c .before .before .before .before .before .before .before .before .before .before .before .before .before .before .before .args) .stream .now) ((c .before .before .before .before .before .before .before .before .before .before .before .before .loop) .at) (sym ((c .before .before .before .before .before .before .before .before .before .before .before .look-ahead) .ensures) ∙ (c .before .before .before .before .before .before .before .before .before .t) .given .1))))
 
 pub tails-enum-known-e : (t : ℕ) → tails-lts.Need-enum-known-e (
   look-ahead-reads.Asked,
@@ -257,7 +254,7 @@ pub tails-same-length-4 : (t : ℕ) → tails-lts.Need-same-length-4 (
   tail-below t,
   tail.Post,
 ) (tails-at t) tails.Post tails-Inv-loop tails-μ-loop
-tails-same-length-4 t c = (c .before .before .before .before .before .tail) .kept .1 .0 ∙ going-length ((c .before .before .before .before .before .before .before .before .before .before .before .before .before .before .before .before .before .before .loop) .inv .4)
+tails-same-length-4 t c = (c .before .before .before .before .before .tail) .kept .1 .0 ∙ going-length (((c .before .before .before .before .before .before .before .before .before .before .before .before .before .before .before .before .before .before .loop) .inv) .4)
 
 pub tails-returns-4 : (t : ℕ) → tails-lts.Need-returns-4 (
   look-ahead-reads.Asked,
@@ -273,12 +270,11 @@ unfolding read tail′ tails′
 tails-returns-4 t c =
     let z : ((c .before .before .before .before .before .before .before .before .before .before .before .before .before .before .before .before .before .before .before .before .before .args) .limit) < (c .before .before .before .before .before .before .before .before .before .binary-priority) .result .left = (c .before .before .before .before .before .before .before .if1) .left in
     let q = (ap (λ (z : Priority). z .left) ((c .before .before .before .before .before .before .before .before .before .binary-priority) .ensures)) in
-    let w : ((c .before .before .before .before .before .before .before .before .before .before .before .before .before .before .before .before .before .before .before .before .before .args) .limit) < ranks ((c .before .before .before .before .before .before .before .before .before .before .before .before .before .before .before .before .before .before .before .before .before .args) .ranking) .left ((c .before .before .before .before .before .before .before .before .before .before .before .before .before .before .before .t) .given .0 .0 .kind) = omega (arith, z, q) in
+    let w : ((c .before .before .before .before .before .before .before .before .before .before .before .before .before .before .before .before .before .before .before .before .before .args) .limit) < ranks ((c .before .before .before .before .before .before .before .before .before .before .before .before .before .before .before .before .before .before .before .before .before .args) .ranking) .left (((c .before .before .before .before .before .before .before .before .before .before .before .before .before .before .before .t) .given .0 .0) .kind) = omega (arith, z, q) in
     let e = looping ((c .before .before .before .before .before .before .before .before .before .before .before .before .before .before .before .before .before .before .before .before .before .args) .stream .now) ((c .before .before .before .before .before .before .before .before .before .before .before .before .before .before .before .before .before .before .before .before .before .args) .ranking) ((c .before .before .before .before .before .before .before .before .before .before .before .before .before .before .before .before .before .before .before .before .before .args) .limit) ((c .before .before .before .before .before .before .before .before .before .before .before .before .before .before .before .before .before .before .before .before .before .args) .g) 0 tail′ refl ((c .before .before .before .before .before .before .before .before .before .before .before .before .before .before .before .before .before .before .loop) .at) (((c .before .before .before .before .before .before .before .before .before .before .before .before .before .before .before .before .before .before .loop) .inv) .1) ∙ operator-in ((c .before .before .before .before .before .before .before .before .before .before .before .before .before .before .before .before .before .before .before .before .before .args) .stream .now) (ranks ((c .before .before .before .before .before .before .before .before .before .before .before .before .before .before .before .before .before .before .before .before .before .args) .ranking)) ((c .before .before .before .before .before .before .before .before .before .before .before .before .before .before .before .before .before .before .before .before .before .args) .limit) (readers ((c .before .before .before .before .before .before .before .before .before .before .before .before .before .before .before .before .before .before .before .before .before .args) .stream .now) (ranks ((c .before .before .before .before .before .before .before .before .before .before .before .before .before .before .before .before .before .before .before .before .before .args) .ranking)) ((c .before .before .before .before .before .before .before .before .before .before .before .before .before .before .before .before .before .before .before .before .before .args) .g)) (hold 0 0 none) (under ((c .before .before .before .before .before .before .before .before .before .before .before .before .before .before .before .before .before .before .before .before .before .args) .stream .now) ((c .before .before .before .before .before .before .before .before .before .before .before .before .before .before .before .before .before .before .before .before .before .args) .ranking) ((c .before .before .before .before .before .before .before .before .before .before .before .before .before .before .before .before .before .before .before .before .before .args) .limit) ((c .before .before .before .before .before .before .before .before .before .before .before .before .before .before .before .before .before .before .before .before .before .args) .g) 0 (iter tail′)) ((c .before .before .before .before .before .before .before .before .before .before .before .before .before .before .before .before .before .before .loop) .at) (plus 1 ⨾ P.operation ⨾ again′) empty (sym ((c .before .before .before .before .before .before .before .before .before .before .before .before .before .before .before .before .before .look-ahead) .ensures) ∙ (c .before .before .before .before .before .before .before .before .before .before .before .before .before .before .before .t) .given .1) w in
     let st = settled ((c .before .before .before .before .before .before .before .before .before .before .before .before .before .before .before .before .before .before .before .before .before .args) .stream .now) ((c .before .before .before .before .before .before .before .before .before .before .before .before .before .before .before .before .before .before .before .before .before .args) .ranking) ((c .before .before .before .before .before .before .before .before .before .before .before .before .before .before .before .before .before .before .before .before .before .args) .limit) ((c .before .before .before .before .before .before .before .before .before .before .before .before .before .before .before .before .before .before .before .before .before .args) .g) (hold 0 0 none) (under ((c .before .before .before .before .before .before .before .before .before .before .before .before .before .before .before .before .before .before .before .before .before .args) .stream .now) ((c .before .before .before .before .before .before .before .before .before .before .before .before .before .before .before .before .before .before .before .before .before .args) .ranking) ((c .before .before .before .before .before .before .before .before .before .before .before .before .before .before .before .before .before .before .before .before .before .args) .limit) ((c .before .before .before .before .before .before .before .before .before .before .before .before .before .before .before .before .before .before .before .before .before .args) .g) 0 (iter tail′)) P.operation refl ((c .before .before .before .before .before .before .before .before .before .before .before .before .before .before .before .t) .given .0 .1 .0) in
     let f1 = weighs {s = ((c .before .before .before .before .before .before .before .before .before .before .before .before .before .before .before .before .before .before .before .before .before .args) .stream .now)} ((c .before .before .before .before .before .before .before .before .before .before .before .before .before .before .before .before .before .before .loop) .nodes) ((c .before .before .before .before .before .before .before .before .before .before .before .before .before .before .before .before .before .before .loop) .u) 0 1 ((c .before .before .before .before .before .before .before .before .before .before .before .before .before .before .before .t) .given .0 .1 .0) (omega (arith, ((c .before .before .before .before .before .before .before .before .before .before .before .before .before .before .before .before .before .before .loop) .inv) .1, (look-place ((c .before .before .before .before .before .before .before .before .before .before .before .before .before .before .before .before .before .before .before .before .before .args) .stream .now) ((c .before .before .before .before .before .before .before .before .before .before .before .before .before .before .before .before .before .before .loop) .at) (sym ((c .before .before .before .before .before .before .before .before .before .before .before .before .before .before .before .before .before .look-ahead) .ensures) ∙ (c .before .before .before .before .before .before .before .before .before .before .before .before .before .before .before .t) .given .1)))) (omega (arith, ((c .before .before .before .before .before .before .before .before .before .before .before .before .before .before .before .before .before .before .loop) .inv) .2, (look-place ((c .before .before .before .before .before .before .before .before .before .before .before .before .before .before .before .before .before .before .before .before .before .args) .stream .now) ((c .before .before .before .before .before .before .before .before .before .before .before .before .before .before .before .before .before .before .loop) .at) (sym ((c .before .before .before .before .before .before .before .before .before .before .before .before .before .before .before .before .before .look-ahead) .ensures) ∙ (c .before .before .before .before .before .before .before .before .before .before .before .before .before .before .before .t) .given .1)))) in
-    let y = rw ((c .before .e) .given .1) at ((c .before .before .before .before .before .tail) .ensures) in
-    fails ((c .before .before .before .before .before .before .before .before .before .before .before .before .before .before .before .before .before .before .loop) .inv .4) (e ∙ past (read ((c .before .before .before .before .before .before .before .before .before .before .before .before .before .before .before .before .before .before .before .before .before .args) .stream .now) (ranks ((c .before .before .before .before .before .before .before .before .before .before .before .before .before .before .before .before .before .before .before .before .before .args) .ranking)) ((c .before .before .before .before .before .before .before .before .before .before .before .before .before .before .before .before .before .before .before .before .before .args) .limit) (readers ((c .before .before .before .before .before .before .before .before .before .before .before .before .before .before .before .before .before .before .before .before .before .args) .stream .now) (ranks ((c .before .before .before .before .before .before .before .before .before .before .before .before .before .before .before .before .before .before .before .before .before .args) .ranking)) ((c .before .before .before .before .before .before .before .before .before .before .before .before .before .before .before .before .before .before .before .before .before .args) .g)) (hold 0 0 none) (P.operation ⨾ again′) (under ((c .before .before .before .before .before .before .before .before .before .before .before .before .before .before .before .before .before .before .before .before .before .args) .stream .now) ((c .before .before .before .before .before .before .before .before .before .before .before .before .before .before .before .before .before .before .before .before .before .args) .ranking) ((c .before .before .before .before .before .before .before .before .before .before .before .before .before .before .before .before .before .before .before .before .before .args) .limit) ((c .before .before .before .before .before .before .before .before .before .before .before .before .before .before .before .before .before .before .before .before .before .args) .g) 0 (iter tail′))) f1 (stop (under ((c .before .before .before .before .before .before .before .before .before .before .before .before .before .before .before .before .before .before .before .before .before .args) .stream .now) ((c .before .before .before .before .before .before .before .before .before .before .before .before .before .before .before .before .before .before .before .before .before .args) .ranking) ((c .before .before .before .before .before .before .before .before .before .before .before .before .before .before .before .before .before .before .before .before .before .args) .limit) ((c .before .before .before .before .before .before .before .before .before .before .before .before .before .before .before .before .before .before .before .before .before .args) .g) 0 (iter tail′)) (st ∙ y)))
+    fails (((c .before .before .before .before .before .before .before .before .before .before .before .before .before .before .before .before .before .before .loop) .inv) .4) (e ∙ past (read ((c .before .before .before .before .before .before .before .before .before .before .before .before .before .before .before .before .before .before .before .before .before .args) .stream .now) (ranks ((c .before .before .before .before .before .before .before .before .before .before .before .before .before .before .before .before .before .before .before .before .before .args) .ranking)) ((c .before .before .before .before .before .before .before .before .before .before .before .before .before .before .before .before .before .before .before .before .before .args) .limit) (readers ((c .before .before .before .before .before .before .before .before .before .before .before .before .before .before .before .before .before .before .before .before .before .args) .stream .now) (ranks ((c .before .before .before .before .before .before .before .before .before .before .before .before .before .before .before .before .before .before .before .before .before .args) .ranking)) ((c .before .before .before .before .before .before .before .before .before .before .before .before .before .before .before .before .before .before .before .before .before .args) .g)) (hold 0 0 none) (P.operation ⨾ again′) (under ((c .before .before .before .before .before .before .before .before .before .before .before .before .before .before .before .before .before .before .before .before .before .args) .stream .now) ((c .before .before .before .before .before .before .before .before .before .before .before .before .before .before .before .before .before .before .before .before .before .args) .ranking) ((c .before .before .before .before .before .before .before .before .before .before .before .before .before .before .before .before .before .before .before .before .before .args) .limit) ((c .before .before .before .before .before .before .before .before .before .before .before .before .before .before .before .before .before .before .before .before .before .args) .g) 0 (iter tail′))) f1 (stop (under ((c .before .before .before .before .before .before .before .before .before .before .before .before .before .before .before .before .before .before .before .before .before .args) .stream .now) ((c .before .before .before .before .before .before .before .before .before .before .before .before .before .before .before .before .before .before .before .before .before .args) .ranking) ((c .before .before .before .before .before .before .before .before .before .before .before .before .before .before .before .before .before .before .before .before .before .args) .limit) ((c .before .before .before .before .before .before .before .before .before .before .before .before .before .before .before .before .before .before .before .before .before .args) .g) 0 (iter tail′)) (st ∙ rw ((c .before .e) .given .1) at ((c .before .before .before .before .before .tail) .ensures))))
 
 pub tails-enum-known-e-2 : (t : ℕ) → tails-lts.Need-enum-known-e-2 (
   look-ahead-reads.Asked,
@@ -330,11 +326,10 @@ unfolding read tail′ tails′
 tails-loop-again t c =
     let z : ((c .before .before .before .before .before .before .before .before .before .before .before .before .before .before .before .before .before .before .before .before .before .args) .limit) < (c .before .before .before .before .before .before .before .before .before .binary-priority) .result .left = (c .before .before .before .before .before .before .before .if1) .left in
     let q = (ap (λ (z : Priority). z .left) ((c .before .before .before .before .before .before .before .before .before .binary-priority) .ensures)) in
-    let w : ((c .before .before .before .before .before .before .before .before .before .before .before .before .before .before .before .before .before .before .before .before .before .args) .limit) < ranks ((c .before .before .before .before .before .before .before .before .before .before .before .before .before .before .before .before .before .before .before .before .before .args) .ranking) .left ((c .before .before .before .before .before .before .before .before .before .before .before .before .before .before .before .t) .given .0 .0 .kind) = omega (arith, z, q) in
+    let w : ((c .before .before .before .before .before .before .before .before .before .before .before .before .before .before .before .before .before .before .before .before .before .args) .limit) < ranks ((c .before .before .before .before .before .before .before .before .before .before .before .before .before .before .before .before .before .before .before .before .before .args) .ranking) .left (((c .before .before .before .before .before .before .before .before .before .before .before .before .before .before .before .t) .given .0 .0) .kind) = omega (arith, z, q) in
     let e = looping ((c .before .before .before .before .before .before .before .before .before .before .before .before .before .before .before .before .before .before .before .before .before .args) .stream .now) ((c .before .before .before .before .before .before .before .before .before .before .before .before .before .before .before .before .before .before .before .before .before .args) .ranking) ((c .before .before .before .before .before .before .before .before .before .before .before .before .before .before .before .before .before .before .before .before .before .args) .limit) ((c .before .before .before .before .before .before .before .before .before .before .before .before .before .before .before .before .before .before .before .before .before .args) .g) 0 tail′ refl ((c .before .before .before .before .before .before .before .before .before .before .before .before .before .before .before .before .before .before .loop) .at) (((c .before .before .before .before .before .before .before .before .before .before .before .before .before .before .before .before .before .before .loop) .inv) .1) ∙ operator-in ((c .before .before .before .before .before .before .before .before .before .before .before .before .before .before .before .before .before .before .before .before .before .args) .stream .now) (ranks ((c .before .before .before .before .before .before .before .before .before .before .before .before .before .before .before .before .before .before .before .before .before .args) .ranking)) ((c .before .before .before .before .before .before .before .before .before .before .before .before .before .before .before .before .before .before .before .before .before .args) .limit) (readers ((c .before .before .before .before .before .before .before .before .before .before .before .before .before .before .before .before .before .before .before .before .before .args) .stream .now) (ranks ((c .before .before .before .before .before .before .before .before .before .before .before .before .before .before .before .before .before .before .before .before .before .args) .ranking)) ((c .before .before .before .before .before .before .before .before .before .before .before .before .before .before .before .before .before .before .before .before .before .args) .g)) (hold 0 0 none) (under ((c .before .before .before .before .before .before .before .before .before .before .before .before .before .before .before .before .before .before .before .before .before .args) .stream .now) ((c .before .before .before .before .before .before .before .before .before .before .before .before .before .before .before .before .before .before .before .before .before .args) .ranking) ((c .before .before .before .before .before .before .before .before .before .before .before .before .before .before .before .before .before .before .before .before .before .args) .limit) ((c .before .before .before .before .before .before .before .before .before .before .before .before .before .before .before .before .before .before .before .before .before .args) .g) 0 (iter tail′)) ((c .before .before .before .before .before .before .before .before .before .before .before .before .before .before .before .before .before .before .loop) .at) (plus 1 ⨾ P.operation ⨾ again′) empty (sym ((c .before .before .before .before .before .before .before .before .before .before .before .before .before .before .before .before .before .look-ahead) .ensures) ∙ (c .before .before .before .before .before .before .before .before .before .before .before .before .before .before .before .t) .given .1) w in
     let st = settled ((c .before .before .before .before .before .before .before .before .before .before .before .before .before .before .before .before .before .before .before .before .before .args) .stream .now) ((c .before .before .before .before .before .before .before .before .before .before .before .before .before .before .before .before .before .before .before .before .before .args) .ranking) ((c .before .before .before .before .before .before .before .before .before .before .before .before .before .before .before .before .before .before .before .before .before .args) .limit) ((c .before .before .before .before .before .before .before .before .before .before .before .before .before .before .before .before .before .before .before .before .before .args) .g) (hold 0 0 none) (under ((c .before .before .before .before .before .before .before .before .before .before .before .before .before .before .before .before .before .before .before .before .before .args) .stream .now) ((c .before .before .before .before .before .before .before .before .before .before .before .before .before .before .before .before .before .before .before .before .before .args) .ranking) ((c .before .before .before .before .before .before .before .before .before .before .before .before .before .before .before .before .before .before .before .before .before .args) .limit) ((c .before .before .before .before .before .before .before .before .before .before .before .before .before .before .before .before .before .before .before .before .before .args) .g) 0 (iter tail′)) P.operation refl ((c .before .before .before .before .before .before .before .before .before .before .before .before .before .before .before .t) .given .0 .1 .0) in
     let f1 = weighs {s = ((c .before .before .before .before .before .before .before .before .before .before .before .before .before .before .before .before .before .before .before .before .before .args) .stream .now)} ((c .before .before .before .before .before .before .before .before .before .before .before .before .before .before .before .before .before .before .loop) .nodes) ((c .before .before .before .before .before .before .before .before .before .before .before .before .before .before .before .before .before .before .loop) .u) 0 1 ((c .before .before .before .before .before .before .before .before .before .before .before .before .before .before .before .t) .given .0 .1 .0) (omega (arith, ((c .before .before .before .before .before .before .before .before .before .before .before .before .before .before .before .before .before .before .loop) .inv) .1, (look-place ((c .before .before .before .before .before .before .before .before .before .before .before .before .before .before .before .before .before .before .before .before .before .args) .stream .now) ((c .before .before .before .before .before .before .before .before .before .before .before .before .before .before .before .before .before .before .loop) .at) (sym ((c .before .before .before .before .before .before .before .before .before .before .before .before .before .before .before .before .before .look-ahead) .ensures) ∙ (c .before .before .before .before .before .before .before .before .before .before .before .before .before .before .before .t) .given .1)))) (omega (arith, ((c .before .before .before .before .before .before .before .before .before .before .before .before .before .before .before .before .before .before .loop) .inv) .2, (look-place ((c .before .before .before .before .before .before .before .before .before .before .before .before .before .before .before .before .before .before .before .before .before .args) .stream .now) ((c .before .before .before .before .before .before .before .before .before .before .before .before .before .before .before .before .before .before .loop) .at) (sym ((c .before .before .before .before .before .before .before .before .before .before .before .before .before .before .before .before .before .look-ahead) .ensures) ∙ (c .before .before .before .before .before .before .before .before .before .before .before .before .before .before .before .t) .given .1)))) in
     let f2 = alter st (rw ((c .before .e2) .given .1) at ((c .before .before .before .before .before .tail) .ensures)) in
-    let g1 = goes ((c .before .before .before .before .before .before .before .before .before .before .before .before .before .before .before .before .before .before .loop) .inv .4) (read ((c .before .before .before .before .before .before .before .before .before .before .before .before .before .before .before .before .before .before .before .before .before .args) .stream .now) (ranks ((c .before .before .before .before .before .before .before .before .before .before .before .before .before .before .before .before .before .before .before .before .before .args) .ranking)) ((c .before .before .before .before .before .before .before .before .before .before .before .before .before .before .before .before .before .before .before .before .before .args) .limit) (readers ((c .before .before .before .before .before .before .before .before .before .before .before .before .before .before .before .before .before .before .before .before .before .args) .stream .now) (ranks ((c .before .before .before .before .before .before .before .before .before .before .before .before .before .before .before .before .before .before .before .before .before .args) .ranking)) ((c .before .before .before .before .before .before .before .before .before .before .before .before .before .before .before .before .before .before .before .before .before .args) .g)) (hold 0 0 none) (P.operation ⨾ again′) (under ((c .before .before .before .before .before .before .before .before .before .before .before .before .before .before .before .before .before .before .before .before .before .args) .stream .now) ((c .before .before .before .before .before .before .before .before .before .before .before .before .before .before .before .before .before .before .before .before .before .args) .ranking) ((c .before .before .before .before .before .before .before .before .before .before .before .before .before .before .before .before .before .before .before .before .before .args) .limit) ((c .before .before .before .before .before .before .before .before .before .before .before .before .before .before .before .before .before .before .before .before .before .args) .g) 0 (iter tail′))) e f1 (omega (arith, (look-place ((c .before .before .before .before .before .before .before .before .before .before .before .before .before .before .before .before .before .before .before .before .before .args) .stream .now) ((c .before .before .before .before .before .before .before .before .before .before .before .before .before .before .before .before .before .before .loop) .at) (sym ((c .before .before .before .before .before .before .before .before .before .before .before .before .before .before .before .before .before .look-ahead) .ensures) ∙ (c .before .before .before .before .before .before .before .before .before .before .before .before .before .before .before .t) .given .1)))) in
-    let g2 = goes g1 (under ((c .before .before .before .before .before .before .before .before .before .before .before .before .before .before .before .before .before .before .before .before .before .args) .stream .now) ((c .before .before .before .before .before .before .before .before .before .before .before .before .before .before .before .before .before .before .before .before .before .args) .ranking) ((c .before .before .before .before .before .before .before .before .before .before .before .before .before .before .before .before .before .before .before .before .before .args) .limit) ((c .before .before .before .before .before .before .before .before .before .before .before .before .before .before .before .before .before .before .before .before .before .args) .g) 0 (iter tail′)) refl f2 (omega arith) in
-    (((c .before .before .before .before .before .before .before .before .before .before .before .before .before .before .before .before .before .before .loop) .inv) .0, f2 .at, f2 .room, omega (arith, f2 .later, (look-place ((c .before .before .before .before .before .before .before .before .before .before .before .before .before .before .before .before .before .before .before .before .before .args) .stream .now) ((c .before .before .before .before .before .before .before .before .before .before .before .before .before .before .before .before .before .before .loop) .at) (sym ((c .before .before .before .before .before .before .before .before .before .before .before .before .before .before .before .before .before .look-ahead) .ensures) ∙ (c .before .before .before .before .before .before .before .before .before .before .before .before .before .before .before .t) .given .1)), ((c .before .before .before .before .before .before .before .before .before .before .before .before .before .before .before .before .before .before .loop) .inv) .3), revalue-going (omega arith) g2)
+    let g1 = goes (((c .before .before .before .before .before .before .before .before .before .before .before .before .before .before .before .before .before .before .loop) .inv) .4) (read ((c .before .before .before .before .before .before .before .before .before .before .before .before .before .before .before .before .before .before .before .before .before .args) .stream .now) (ranks ((c .before .before .before .before .before .before .before .before .before .before .before .before .before .before .before .before .before .before .before .before .before .args) .ranking)) ((c .before .before .before .before .before .before .before .before .before .before .before .before .before .before .before .before .before .before .before .before .before .args) .limit) (readers ((c .before .before .before .before .before .before .before .before .before .before .before .before .before .before .before .before .before .before .before .before .before .args) .stream .now) (ranks ((c .before .before .before .before .before .before .before .before .before .before .before .before .before .before .before .before .before .before .before .before .before .args) .ranking)) ((c .before .before .before .before .before .before .before .before .before .before .before .before .before .before .before .before .before .before .before .before .before .args) .g)) (hold 0 0 none) (P.operation ⨾ again′) (under ((c .before .before .before .before .before .before .before .before .before .before .before .before .before .before .before .before .before .before .before .before .before .args) .stream .now) ((c .before .before .before .before .before .before .before .before .before .before .before .before .before .before .before .before .before .before .before .before .before .args) .ranking) ((c .before .before .before .before .before .before .before .before .before .before .before .before .before .before .before .before .before .before .before .before .before .args) .limit) ((c .before .before .before .before .before .before .before .before .before .before .before .before .before .before .before .before .before .before .before .before .before .args) .g) 0 (iter tail′))) e f1 (omega (arith, (look-place ((c .before .before .before .before .before .before .before .before .before .before .before .before .before .before .before .before .before .before .before .before .before .args) .stream .now) ((c .before .before .before .before .before .before .before .before .before .before .before .before .before .before .before .before .before .before .loop) .at) (sym ((c .before .before .before .before .before .before .before .before .before .before .before .before .before .before .before .before .before .look-ahead) .ensures) ∙ (c .before .before .before .before .before .before .before .before .before .before .before .before .before .before .before .t) .given .1)))) in
+    (((c .before .before .before .before .before .before .before .before .before .before .before .before .before .before .before .before .before .before .loop) .inv) .0, f2 .at, f2 .room, omega (arith, f2 .later, (look-place ((c .before .before .before .before .before .before .before .before .before .before .before .before .before .before .before .before .before .before .before .before .before .args) .stream .now) ((c .before .before .before .before .before .before .before .before .before .before .before .before .before .before .before .before .before .before .loop) .at) (sym ((c .before .before .before .before .before .before .before .before .before .before .before .before .before .before .before .before .before .look-ahead) .ensures) ∙ (c .before .before .before .before .before .before .before .before .before .before .before .before .before .before .before .t) .given .1)), ((c .before .before .before .before .before .before .before .before .before .before .before .before .before .before .before .before .before .before .loop) .inv) .3), revalue-going (omega arith) (goes g1 (under ((c .before .before .before .before .before .before .before .before .before .before .before .before .before .before .before .before .before .before .before .before .before .args) .stream .now) ((c .before .before .before .before .before .before .before .before .before .before .before .before .before .before .before .before .before .before .before .before .before .args) .ranking) ((c .before .before .before .before .before .before .before .before .before .before .before .before .before .before .before .before .before .before .before .before .before .args) .limit) ((c .before .before .before .before .before .before .before .before .before .before .before .before .before .before .before .before .before .before .before .before .before .args) .g) 0 (iter tail′)) refl f2 (omega arith)))

@@ -20,7 +20,7 @@ use Rattle.grammar.specs.Term.{opening}
 use Rattle.parser.specs.Contract.{again}
 use Rattle.stream.proofs.Words.{few}
 use Rattle.parser.proofs.Steps.{took-kind}
-use Rattle.parser.proofs.Kit.{kept, stop, past, both, over}
+use Rattle.parser.proofs.Kit.{kept, ready-at, stop, past, both, over}
 use Rattle.parser.proofs.Tokens.{ready-after, word-fail, word-fine}
 use Rattle.grammar.specs.Productions.{whilestat}
 
@@ -95,7 +95,7 @@ pub whiles-sub-requires : (t : ℕ) → whiles-lts.Need-sub-requires (
   close-reads.Asked,
   close-reads.Learnt,
 ) (whiles-at t) whiles.Post
-whiles-sub-requires t c κs = (omega (arith, (c .before .before .before .before .before .before .before .pre) .0), ready-after (((c .before .before .before .before .before .before .before .args) .used) + 1) 1 (((c .before .before .before .before .before .before .before .pre) .1 .0) .formed) (took-kind ((c .before .before .before .before .before .before .before .args) .stream .now) ((c .before .before .before .before .before .before .before .args) .c) 21 ((sym ((c .before .before .before .before .expect-next) .ensures)) ∙ (c .before .before .d) .given .1) .0) (omega (arith, ((c .before .before .before .before .before .before .before .pre) .1 .0) .room)))
+whiles-sub-requires t c κs = (omega (arith, (c .before .before .before .before .before .before .before .pre) .0), ready-after (((c .before .before .before .before .before .before .before .pre) .1 .0) .formed) (took-kind ((c .before .before .before .before .before .before .before .args) .stream .now) ((c .before .before .before .before .before .before .before .args) .c) 21 ((sym ((c .before .before .before .before .expect-next) .ensures)) ∙ (c .before .before .d) .given .1)) (omega (arith, ((c .before .before .before .before .before .before .before .pre) .1 .0) .room)))
 
 pub whiles-enum-known-e-2 : (t : ℕ) → whiles-lts.Need-enum-known-e-2 (
   expect-next-reads.Asked,
@@ -133,7 +133,7 @@ pub whiles-body-requires : (t : ℕ) → whiles-lts.Need-body-requires (
 ) (whiles-at t) whiles.Post
 whiles-body-requires t c κs =
     let f2 = rw ((c .before .before .e3) .given .1) at ((c .before .before .before .before .before .before .sub) .ensures) in
-    (omega (arith, (c .before .before .before .before .before .before .before .before .before .before .before .before .before .before .pre) .0), record { formed = ((c .before .before .before .before .before .before .before .before .before .before .before .before .before .before .pre) .1 .0) .formed; at = f2 .at; room = f2 .room })
+    (omega (arith, (c .before .before .before .before .before .before .before .before .before .before .before .before .before .before .pre) .0), ready-at (((c .before .before .before .before .before .before .before .before .before .before .before .before .before .before .pre) .1 .0) .formed) f2 (omega arith))
 
 pub whiles-enum-known-e-4 : (t : ℕ) → whiles-lts.Need-enum-known-e-4 (
   expect-next-reads.Asked,

@@ -1,0 +1,11 @@
+pub mod Walks
+pub mod Classes
+pub mod Words
+pub mod Machine
+pub mod Noted
+pub mod Fit
+pub mod Agree
+pub mod Parts
+pub mod Marks
+pub mod Carry
+pub mod Trees
