@@ -8,6 +8,7 @@ use native.Mathlib.Omega.{arith}
 use lib.ListN.{length}
 use Rattle.stream.specs.Words.{records}
 use Rattle.stream.specs.declared.reader.Cursor.{Cursor}
+use Rattle.stream.specs.declared.reader.Note.{Note}
 use Rattle.stream.specs.declared.reader.Refusal.{Refusal}
 use Rattle.operators.specs.Ranks.{ranks}
 use Rattle.operators.specs.declared.Ranking.{Ranking}
@@ -66,18 +67,18 @@ module _ (s : List ℕ) (k : Ranking) where
 pub lead-stop : {o : Out} {e : Refusal} (f : Forest → Reader) → o ≡ fail e → leads o f ≡ fail e
 lead-stop f x = ap (λ (z : Out). leads z f) x
 
-pub leads-is : {s : List ℕ} {low used more : ℕ} {n n′ : List ℕ} {o : Out} {c : Cursor} {u : ℕ} (f : Forest → Reader) (x : Fine s low used more n n′ o c u 0) → leads o f ≡ f (x .trees) (c .place) (c .mark)
+pub leads-is : {s : List ℕ} {q : Note} {low used more : ℕ} {n n′ : List ℕ} {o : Out} {c : Cursor} {u : ℕ} (f : Forest → Reader) (x : Fine s q low used more n n′ o c u 0) → leads o f ≡ f (x .trees) (c .place) (c .mark)
 leads-is {c = c} f x = ap (λ (z : Out). leads z f) (x .says) ∙ add-none (f (x .trees) (c .place) (c .mark))
 
 -- what is held, seen from the cursor that a look gave
-unfoldable pub held-at : {s : List ℕ} {low used more : ℕ} {n n′ : List ℕ} {o : Out} {c : Cursor} {u v : ℕ} (f : Fine s low used more n n′ o c u v) (d : Cursor) → d .place ≡ c .place
-    → Fine s low used more n n′ (fine (d .place) (d .mark) (f .trees) v) d u v
-held-at f d p = record { trees = f .trees; says = refl; grown = f .grown; laid = f .laid; at = omega (arith, f .at, p); later = omega (arith, f .later, p); room = omega (arith, f .room, p) }
+unfoldable pub held-at : {s : List ℕ} {q : Note} {low used more : ℕ} {n n′ : List ℕ} {o : Out} {c : Cursor} {u v : ℕ} (f : Fine s q low used more n n′ o c u v) (d : Cursor) → d .place ≡ c .place → d .note ≡ c .note
+    → Fine s q low used more n n′ (fine (d .place) (d .mark) (f .trees) v) d u v
+held-at f d p x = record { trees = f .trees; says = refl; grown = f .grown; laid = f .laid; at = omega (arith, f .at, p); later = omega (arith, f .later, p); room = omega (arith, f .room, p); noted = x ∙ f .noted }
 
 -- what is kept, or refused
-module _ {s : List ℕ} {low used more : ℕ} {n n′ : List ℕ} {o o′ : Out} {c : Cursor} {u v : ℕ} (x : Shape) (r : Refusal) (q : o′ ≡ o) (f : Fine s low used more n n′ o c u v) where
-  pub keep-fine : shaped x (f .trees) ≡ true → Fine s low used more n n′ (keep x r o′) c u v
-  keep-fine e = record { trees = f .trees; says = ap (keep x r) (q ∙ f .says) ∙ yes-case _ _ _ e; grown = f .grown; laid = f .laid; at = f .at; later = f .later; room = f .room }
+module _ {s : List ℕ} {q : Note} {low used more : ℕ} {n n′ : List ℕ} {o o′ : Out} {c : Cursor} {u v : ℕ} (x : Shape) (r : Refusal) (y : o′ ≡ o) (f : Fine s q low used more n n′ o c u v) where
+  pub keep-fine : shaped x (f .trees) ≡ true → Fine s q low used more n n′ (keep x r o′) c u v
+  keep-fine e = record { trees = f .trees; says = ap (keep x r) (y ∙ f .says) ∙ yes-case _ _ _ e; grown = f .grown; laid = f .laid; at = f .at; later = f .later; room = f .room; noted = f .noted }
 
   pub keep-fail : shaped x (f .trees) ≡ false → keep x r o′ ≡ fail r
-  keep-fail e = ap (keep x r) (q ∙ f .says) ∙ no-case _ _ _ e
+  keep-fail e = ap (keep x r) (y ∙ f .says) ∙ no-case _ _ _ e

@@ -1,21 +1,25 @@
 -- The unary operators before an expression, and the binary ones after it, as the descent asks for them. Assumes nothing.
 use mathlib.Core.Path.{_≡_, refl, sym, ap, _∙_}
+use mathlib.Core.Bool.{Bool, true, false, _||_}
 use mathlib.Core.List.{List, [], _∷_}
 use mathlib.Core.Logic.{by-cases}
 use Prim.Native.Nat.{ℕ, _≤_, _<_}
 use native.Mathlib.Decide.{ℕ-discrete}
 use native.Mathlib.Omega.{arith}
-use borrow.Author.Tests.{lt-ltb, le-ltb}
-use lib.Dec.{ltb}
+use borrow.Author.Tests.{lt-ltb, le-ltb, ne-eqb, eqb-true}
+use lib.Dec.{ltb, eqb}
 use Rattle.stream.specs.Reader.{getNext, lookAhead}
 use Rattle.stream.specs.declared.reader.Cursor.{Cursor}
 use Rattle.stream.specs.declared.reader.Token.{Token}
 use Rattle.stream.specs.declared.reader.Next.the-variants.{Took}
 use Rattle.stream.specs.declared.reader.Look.the-variants.{Seen, End}
-use Rattle.operators.specs.Ranks.{Ranks, find, row, operator, unaryOperator}
+use Rattle.operators.specs.Ranks.{Ranks, ranks, binary, find, row, operator, unaryOperator, binaryOperator}
+use Rattle.operators.specs.Ranks.{Row as Row′}
+use Rattle.operators.specs.declared.Ranking.{Ranking}
+use Rattle.operators.specs.declared.Ranking.the-variants.{Crate, Manual}
 use Rattle.operators.specs.declared.Operator.{Operator}
 use Rattle.operators.specs.declared.Operator.the-variants.{Found, Nothing}
-use Rattle.operators.proofs.Laws.{find-later}
+use Rattle.operators.proofs.Laws.{find-later, rule, binary-left}
 use Rattle.grammar.specs.Term.{Term, here, unlined, any, plus, exp, _⨾_, operator as operator′, node}
 use Rattle.grammar.specs.Reading.{Out, Reader, Readers, Held, read}
 use Rattle.grammar.specs.Productions.{simple, head}
@@ -109,3 +113,17 @@ module _ (s : List ℕ) (rank : Ranks) (limit : ℕ) (R : Readers) (h : Held) (A
   operator-end x y =
       let g = ran-out s c x in
       no-case _ _ _ (ap (λ (z : ℕ). ltb limit (rank .left z)) (g .end) ∙ le-ltb limit (rank .left 59) (omega (arith, y))) ∙ sym (ap (λ (z : Cursor). read s rank limit R h b A (z .place) (z .mark)) (g .cursor))
+
+-- a binary operator has a right rank: what it holds is an operand
+abbrev Sided : Row′ → Row′ → Bool
+Sided x y = ltb 0 (x .right) || eqb (x .left) 0
+
+sides : (g : Ranking) (k : ℕ) → (ltb 0 (ranks g .right k) || eqb (ranks g .left k) 0) ≡ true
+sides Crate k = rule Sided k (binary 10) (binary 10) refl refl
+sides Manual k = rule Sided k (binary 3) (binary 3) refl refl
+
+pub binary-right : (g : Ranking) (k c : ℕ) → binaryOperator k ≡ Found c → eqb (ranks g .right k) 0 ≡ false
+binary-right g k c e = ne-eqb (ranks g .right k) 0 (λ q. none (eqb-true (ranks g .left k) 0 (sym (ap (λ (z : ℕ). ltb 0 z || eqb (ranks g .left k) 0) q) ∙ sides g k)))
+  where
+    none : ranks g .left k ≡ 0 → ⊥
+    none z = omega (arith, z, binary-left g k c e)

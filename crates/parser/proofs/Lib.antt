@@ -1,6 +1,7 @@
 pub mod Steps
 pub mod Among
 pub mod Kit
+pub mod Quiet
 pub mod Tokens
 pub mod Looks
 pub mod Around

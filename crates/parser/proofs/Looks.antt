@@ -14,6 +14,7 @@ use Rattle.stream.specs.Words.{records, kind}
 use Rattle.stream.specs.Formed.{Formed}
 use Rattle.stream.specs.Reader.{reached, readAhead, tokenAt, passed, expecting, getNext, takeNext, expectNext, lookAhead}
 use Rattle.stream.specs.declared.reader.Cursor.{Cursor}
+use Rattle.stream.specs.declared.reader.Note.{Note}
 use Rattle.stream.specs.declared.reader.Token.{Token}
 use Rattle.stream.specs.declared.reader.Refusal.{Refusal}
 use Rattle.stream.specs.declared.reader.Next.{Next}
@@ -44,7 +45,7 @@ module _ (s : List ℕ) where
       max-twice a b = omega arith
 
   twice : (c : Cursor) (n : ℕ) → readAhead s (readAhead s c n) n ≡ readAhead s c n
-  twice c n = ap (λ (z : ℕ). record { place = c .place; mark = z }) (reached-twice (c .mark) (c .place) (n + 1))
+  twice c n = ap (λ (z : ℕ). record { place = c .place; mark = z; note = c .note }) (reached-twice (c .mark) (c .place) (n + 1))
 
   -- what was got is got again; what was seen is seen again; and so is the end
   pub got-again : (c : Cursor) {t : Token} {d : Cursor} → getNext s c ≡ Took t d → getNext s d ≡ Took t d
@@ -157,7 +158,7 @@ abbrev placed : Out → ℕ
 placed (fine q m t v) = q
 placed (fail e) = 0
 
-pub looks-on : (s : List ℕ) (k : Ranking) (g : ℕ) (c : Cursor) {low used more : ℕ} {n n′ : List ℕ} {d : Cursor} {u v : ℕ} → Fine s low used more n n′ (says s k g look c) d u v → c .place ≡ d .place
+pub looks-on : (s : List ℕ) (k : Ranking) (g : ℕ) (c : Cursor) {q : Note} {low used more : ℕ} {n n′ : List ℕ} {d : Cursor} {u v : ℕ} → Fine s q low used more n n′ (says s k g look c) d u v → c .place ≡ d .place
 unfolding read
 looks-on s k g c f = ap placed (f .says)
 
@@ -166,25 +167,25 @@ module _ (s : List ℕ) (rank : Ranks) (limit : ℕ) (R : Readers) (h : Held) (A
   abbrev Word : Out
   Word = read s rank limit R h (word k) A (c .place) (c .mark)
 
-  pub expect-meets : (n : List ℕ) (used more : ℕ) → used ≤ 4 * c .place + (4 + more) → (r : Step) → r ≡ stepped used (expectNext s c k) → Meets s (c .place + 1) used more n n Word r
-  expect-meets n used more l r e = subst (Meets s (c .place + 1) used more n n Word) (sym e) (go (expectNext s c k) refl)
+  pub expect-meets : (n : List ℕ) (used more : ℕ) → used ≤ 4 * c .place + (4 + more) → (r : Step) → r ≡ stepped used (expectNext s c k) → Meets s (c .note) (c .place + 1) used more n n Word r
+  expect-meets n used more l r e = subst (Meets s (c .note) (c .place + 1) used more n n Word) (sym e) (go (expectNext s c k) refl)
     where
-      go : (x : Next) → expectNext s c k ≡ x → Meets s (c .place + 1) used more n n Word (stepped used x)
+      go : (x : Next) → expectNext s c k ≡ x → Meets s (c .note) (c .place + 1) used more n n Word (stepped used x)
       go (Took t d) q = word-fine s rank limit R h A c n used more formed l k real small q
       go (Fail z) q = word-fail s rank limit R h A c k real small q
 
-  pub counted-sums : {low used more : ℕ} {n n′ : List ℕ} {o : Out} {rest : Reader} {u v : ℕ} (start low′ more′ : ℕ) → Going s low used more n n′ o rest c u v → rest (c .place) (c .mark) ≡ Word
-      → low′ ≤ c .place + 1 → u ≤ 4 * c .place + (4 + more′) → v + 2 * start ≤ 2 * c .place → (r : Sum) → r ≡ counting u v (expectNext s c k) → Sums s start low′ used more′ n n′ o r
-  counted-sums {used = used} {n = n} {n′ = n′} {o = o} {u = u} {v = v} start low′ more′ g e l m b r q = subst (Sums s start low′ used more′ n n′ o) (sym q) (go (expectNext s c k) refl)
+  pub counted-sums : {q : Note} {low used more : ℕ} {n n′ : List ℕ} {o : Out} {rest : Reader} {u v : ℕ} (start low′ more′ : ℕ) → Going s q low used more n n′ o rest c u v → rest (c .place) (c .mark) ≡ Word
+      → low′ ≤ c .place + 1 → u ≤ 4 * c .place + (4 + more′) → v + 2 * start ≤ 2 * c .place → (r : Sum) → r ≡ counting u v (expectNext s c k) → Sums s q start low′ used more′ n n′ o r
+  counted-sums {q = q} {used = used} {n = n} {n′ = n′} {o = o} {u = u} {v = v} start low′ more′ g e l m b r x = subst (Sums s q start low′ used more′ n n′ o) (sym x) (go (expectNext s c k) refl)
     where
-      go : (x : Next) → expectNext s c k ≡ x → Sums s start low′ used more′ n n′ o (counting u v x)
+      go : (x : Next) → expectNext s c k ≡ x → Sums s q start low′ used more′ n n′ o (counting u v x)
       go (Took t d) y =
           let w = word-fine s rank limit R h A c n′ u more′ formed m k real small y in
           (lower low′ (revalue (omega arith) (ends g (alter e w) (omega arith))) (omega (arith, w .later)), omega (arith, w .later))
       go (Fail z) y = fails g (e ∙ word-fail s rank limit R h A c k real small y)
 
 -- the same, after a part that was read
-pub expect-after : (s : List ℕ) (rank : Ranks) (limit : ℕ) (R : Readers) (h : Held) (A : Reader) {low used more : ℕ} {n n′ : List ℕ} {o : Out} {c : Cursor} {u v : ℕ} → Fine s low used more n n′ o c u v
+pub expect-after : (s : List ℕ) (rank : Ranks) (limit : ℕ) (R : Readers) (h : Held) (A : Reader) {q : Note} {low used more : ℕ} {n n′ : List ℕ} {o : Out} {c : Cursor} {u v : ℕ} → Fine s q low used more n n′ o c u v
     → (k : ℕ) → eqb k 59 ≡ false → expecting k ≡ k + 1 → Formed s → (more′ : ℕ) → more ≤ 4 + more′ → (r : Step) → r ≡ stepped u (expectNext s c k)
-    → Meets s (c .place + 1) u more′ n′ n′ (read s rank limit R h (word k) A (c .place) (c .mark)) r
+    → Meets s (c .note) (c .place + 1) u more′ n′ n′ (read s rank limit R h (word k) A (c .place) (c .mark)) r
 expect-after s rank limit R h A {n′ = n′} {c = c} {u = u} f k real small formed more′ l r e = expect-meets s rank limit R h A c k real small formed n′ u more′ (omega (arith, f .room)) r e

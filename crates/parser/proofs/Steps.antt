@@ -81,6 +81,20 @@ module _ (s : List ℕ) (c : Cursor) where
   pub end-place : {d : Cursor} → lookAhead s c 0 ≡ End d → d .place ≡ c .place
   end-place x = ap (λ (z : Cursor). z .place) (ran-out x .cursor)
 
+  -- and what was noted
+  pub check-note : (n k : ℕ) {x : Check} → x ≡ checkAhead s c n k → x .cursor .note ≡ c .note
+  unfolding checkAhead
+  check-note n k e = ap (λ (z : Check). z .cursor .note) e
+
+  pub get-note : {t : Token} {d : Cursor} → getNext s c ≡ Took t d → d .note ≡ c .note
+  get-note x = ap (λ (z : Cursor). z .note) (got x .cursor)
+
+  pub look-note : {t : Token} {d : Cursor} → lookAhead s c 0 ≡ Seen t d → d .note ≡ c .note
+  look-note x = ap (λ (z : Cursor). z .note) (saw x .cursor)
+
+  pub end-note : {d : Cursor} → lookAhead s c 0 ≡ End d → d .note ≡ c .note
+  end-note x = ap (λ (z : Cursor). z .note) (ran-out x .cursor)
+
   -- the token that a look saw, told of where it stands now
   pub saw-kind : {t : Token} {d : Cursor} → lookAhead s c 0 ≡ Seen t d → t .kind ≡ kind s (d .place)
   saw-kind x = let g = saw x in ap (λ (z : Token). z .kind) (g .token) ∙ sym (ap (kind s) (look-place x))
@@ -99,10 +113,11 @@ module _ (s : List ℕ) (c : Cursor) where
   pub record Advanced (t : Token) (d : Cursor) : Type 0 where
     pub token : t ≡ tokenAt s (c .place)
     pub place : d .place ≡ c .place + 1
+    pub note : d .note ≡ c .note
     pub real : kind s (c .place) ≡ 59 → ⊥
 
   advanced : {t : Token} {d : Cursor} (x : Next) → x ≡ Took t d → x ≡ Took (tokenAt s (c .place)) (passed (readAhead s c 1)) → (kind s (c .place) ≡ 59 → ⊥) → Advanced t d
-  advanced {d = d} x e f n = let q : d ≡ passed (readAhead s c 1) = cc in record { token = cc; place = ap (λ (z : Cursor). z .place) q; real = n }
+  advanced {d = d} x e f n = let q : d ≡ passed (readAhead s c 1) = cc in record { token = cc; place = ap (λ (z : Cursor). z .place) q; note = ap (λ (z : Cursor). z .note) q; real = n }
 
   never : {A : Type 0} {t : Token} {d : Cursor} {e : Refusal} (x : Next) → x ≡ Took t d → x ≡ Fail e → A
   never x e f = let z : _≡_ {A = ℕ} 0 1 = cc in absurd (omega arith)

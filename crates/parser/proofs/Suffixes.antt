@@ -8,6 +8,7 @@ use lib.Dec.{eqb}
 use Rattle.stream.specs.Words.{kind, line as lineAt}
 use Rattle.stream.specs.Reader.{reached, readAhead}
 use Rattle.stream.specs.declared.reader.Cursor.{Cursor}
+use Rattle.stream.specs.declared.reader.Note.{Note}
 use Rattle.stream.specs.declared.reader.Refusal.{Refusal}
 use Rattle.stream.proofs.Reading.{get-token}
 use Rattle.operators.specs.Ranks.{ranks}
@@ -36,7 +37,7 @@ abbrev pub last-from : ℕ → Out → ℕ
 last-from x (fine q m t v) = last x t
 last-from x (fail e) = 0
 
-pub tag-is : {s : List ℕ} {low used more : ℕ} {n n′ : List ℕ} {o : Out} {c : Cursor} {u v : ℕ} (f : Fine s low used more n n′ o c u v) (tag : ℕ) → last-from 0 o ≡ tag → tag ≡ last 0 (f .trees)
+pub tag-is : {s : List ℕ} {m : Note} {low used more : ℕ} {n n′ : List ℕ} {o : Out} {c : Cursor} {u v : ℕ} (f : Fine s m low used more n n′ o c u v) (tag : ℕ) → last-from 0 o ≡ tag → tag ≡ last 0 (f .trees)
 tag-is f tag e = sym e ∙ ap (last-from 0) (f .says)
 
 -- a suffix is the one that its first token says
@@ -78,11 +79,11 @@ wrap-last : (s : List ℕ) (tag : ℕ) (l : Line) (i : ℕ) {p m v : ℕ} {t : F
 wrap-last s tag l i (fine q m t v) e = refl
 wrap-last s tag l i (fail x) e = let z : _≡_ {A = ℕ} 0 1 = cc in absurd (omega arith)
 
-pub suffix-part : (s : List ℕ) (low used more : ℕ) (n n′ : List ℕ) (k tag : ℕ) (l : Line) (i : ℕ) {o : Out} (b : Out) → member k first-suffix ≡ true → o ≡ wrap s tag l i b
-    → (r : Step) → Meets s low used more n n′ (wrap s tag l i b) r → (q : Part) → q ≡ tagging tag r → Suffixes s low used more n n′ o k q
-suffix-part s low used more n n′ k tag l i {o} b y e r f q z = subst (Suffixes s low used more n n′ o k) (sym z) (go r f)
+pub suffix-part : (s : List ℕ) (m : Note) (low used more : ℕ) (n n′ : List ℕ) (k tag : ℕ) (l : Line) (i : ℕ) {o : Out} (b : Out) → member k first-suffix ≡ true → o ≡ wrap s tag l i b
+    → (r : Step) → Meets s m low used more n n′ (wrap s tag l i b) r → (q : Part) → q ≡ tagging tag r → Suffixes s m low used more n n′ o k q
+suffix-part s m low used more n n′ k tag l i {o} b y e r f q z = subst (Suffixes s m low used more n n′ o k) (sym z) (go r f)
   where
-    go : (x : Step) → Meets s low used more n n′ (wrap s tag l i b) x → Suffixes s low used more n n′ o k (tagging tag x)
+    go : (x : Step) → Meets s m low used more n n′ (wrap s tag l i b) x → Suffixes s m low used more n n′ o k (tagging tag x)
     go (Done c u) x = let a = alter e x in (y, (a, tag-is a tag (ap (last-from 0) e ∙ wrap-last s tag l i b (x .says))))
     go (Fail x) h = (y, e ∙ h)
 
@@ -123,13 +124,13 @@ module _ (s : List ℕ) (k : Ranking) (g x y : ℕ) where
       (on-same (51 ∷ []) P.index (on next (46 ∷ []) P.method P.call) (node-same 33 (any ⨾ expr ⨾ word 52))
       (on-same (46 ∷ []) P.method P.call (node-same 35 (any ⨾ named ⨾ weigh ⨾ args 0)) (node-same 34 (args 1))))
 
-pub suffix-tag : (s : List ℕ) (k : Ranking) (g : ℕ) (c : Cursor) {low used more : ℕ} {n n′ : List ℕ} {d : Cursor} {u v : ℕ} (x : ℕ) (f : Fine s low used more n n′ (says s k g suffix c) d u v) → last 0 (f .trees) ≡ last x (f .trees)
+pub suffix-tag : (s : List ℕ) (k : Ranking) (g : ℕ) (c : Cursor) {m : Note} {low used more : ℕ} {n n′ : List ℕ} {d : Cursor} {u v : ℕ} (x : ℕ) (f : Fine s m low used more n n′ (says s k g suffix c) d u v) → last 0 (f .trees) ≡ last x (f .trees)
 suffix-tag s k g c x f = sym (ap (last-from 0) (f .says)) ∙ suffix-same s k g 0 x (c .place) (c .mark) ∙ ap (last-from x) (f .says)
 
 -- a turn of the loop: what stands last
-pub turns-last : {s : List ℕ} {low used more : ℕ} {n n′ : List ℕ} {o : Out} {rest : Reader} {c : Cursor} {u v : ℕ} (g : Going s low used more n n′ o rest c u v) {low′ more′ : ℕ} {n₂ : List ℕ} {y : Out} {d : Cursor} {w : ℕ} (k : ℕ)
-    → rest (c .place) (c .mark) ≡ then (add none k y) rest → (f : Fine s low′ u more′ n′ n₂ y d w 0) → c .place ≤ low′ → w ≤ 4 * d .place + more → (x tag : ℕ) → tag ≡ last (last x (g .trees)) (f .trees)
-    → (z : Going s low used more n n₂ o rest d w (v + (k + 0))) × (tag ≡ last x (z .trees))
+pub turns-last : {s : List ℕ} {m : Note} {low used more : ℕ} {n n′ : List ℕ} {o : Out} {rest : Reader} {c : Cursor} {u v : ℕ} (g : Going s m low used more n n′ o rest c u v) {low′ more′ : ℕ} {n₂ : List ℕ} {y : Out} {d : Cursor} {w : ℕ} (k : ℕ)
+    → rest (c .place) (c .mark) ≡ then (add none k y) rest → (f : Fine s (c .note) low′ u more′ n′ n₂ y d w 0) → c .place ≤ low′ → w ≤ 4 * d .place + more → (x tag : ℕ) → tag ≡ last (last x (g .trees)) (f .trees)
+    → (z : Going s m low used more n n₂ o rest d w (v + (k + 0))) × (tag ≡ last x (z .trees))
 unfolding turns weighed
 turns-last g k e f l r x tag q = (turns g e (weighed k f) l r, q ∙ sym (last-join x (g .trees) (f .trees)))
 
@@ -138,10 +139,10 @@ abbrev last-kid : Out → ℕ
 last-kid (fine q m t v) = last 0 (kids t)
 last-kid (fail e) = 0
 
-pub parts-last : {s : List ℕ} {low used more : ℕ} {n n₁ : List ℕ} {o : Out} {c : Cursor} {u : ℕ} (rest : Reader) (f : Fine s low used more n n₁ o c u 0)
-    {low′ used′ more′ : ℕ} {n₂ n₃ : List ℕ} {d : Cursor} {w v : ℕ} (g : Going s low′ used′ more′ n₂ n₃ (rest (c .place) (c .mark)) rest d w v)
+pub parts-last : {s : List ℕ} {m m′ m″ : Note} {low used more : ℕ} {n n₁ : List ℕ} {o : Out} {c : Cursor} {u : ℕ} (rest : Reader) (f : Fine s m low used more n n₁ o c u 0)
+    {low′ used′ more′ : ℕ} {n₂ n₃ : List ℕ} {d : Cursor} {w v : ℕ} (g : Going s m′ low′ used′ more′ n₂ n₃ (rest (c .place) (c .mark)) rest d w v)
     (e : Cursor) → rest (d .place) (d .mark) ≡ fine (e .place) (e .mark) none 0
-    → (tag : ℕ) (l : Line) (i : ℕ) {low″ used″ more″ : ℕ} {n₄ n₅ : List ℕ} {z y : ℕ} (r : Fine s low″ used″ more″ n₄ n₅ (wrap s tag l i (then o rest)) e z y)
+    → (tag : ℕ) (l : Line) (i : ℕ) {low″ used″ more″ : ℕ} {n₄ n₅ : List ℕ} {z y : ℕ} (r : Fine s m″ low″ used″ more″ n₄ n₅ (wrap s tag l i (then o rest)) e z y)
     → (first later : ℕ) → first ≡ last 0 (f .trees) → later ≡ last first (g .trees) → later ≡ last 0 (kids (r .trees))
 parts-last {s} rest f {v = v} g e q tag l i r first later a b =
     b ∙ ap (λ (z : ℕ). last z (g .trees)) a ∙ sym (last-join 0 (f .trees) (g .trees)) ∙ ap (last 0) (ap (join (f .trees)) (sym (join-none (g .trees))))
@@ -157,7 +158,7 @@ shape-is : (x : Shape) (s : List ℕ) (l : Line) (i : ℕ) (o : Out) {q m v : �
 shape-is x s l i (fine a b t′ w) e = subst (λ (z : Forest). shaped x z ≡ fitting x (last 0 (kids z))) (ap treesOf e) refl
 shape-is x s l i (fail r) e = let z : _≡_ {A = ℕ} 0 1 = cc in absurd (omega arith)
 
-pub suffixed-fits : (s : List ℕ) (k : Ranking) (g : ℕ) (c : Cursor) (x : Shape) {low used more : ℕ} {n n′ : List ℕ} {d : Cursor} {u v tag : ℕ} (f : Fine s low used more n n′ (says s k g suffixed c) d u v)
+pub suffixed-fits : (s : List ℕ) (k : Ranking) (g : ℕ) (c : Cursor) (x : Shape) {m : Note} {low used more : ℕ} {n n′ : List ℕ} {d : Cursor} {u v tag : ℕ} (f : Fine s m low used more n n′ (says s k g suffixed c) d u v)
     → tag ≡ last 0 (kids (f .trees)) → shaped x (f .trees) ≡ fitting x tag
 unfolding read suffixed
 suffixed-fits s k g c x f e = shape-is x s unlined (c .place) (says s k g (primary ⨾ many ahead (44 ∷ 51 ∷ 46 ∷ 49 ∷ 53 ∷ 57 ∷ []) (plus 1 ⨾ suffix)) c) (f .says) ∙ ap (fitting x) (sym e)
@@ -166,14 +167,14 @@ suffixed-fits s k g c x f e = shape-is x s unlined (c .place) (says s k g (prima
 abbrev no-call : ℕ → Refusal
 no-call z = record { number = 4; line = z; found = 0; expected = 0 }
 
-pub called : {s : List ℕ} {low more : ℕ} {n n₁ : List ℕ} {o : Out} {c : Cursor} {u : ℕ} (used tag i line after : ℕ) (n₂ : List ℕ) (f : Fine s low (used + 1) more n n₁ o c u 0) (d : Cursor) → d .place ≡ c .place
+pub called : {s : List ℕ} {m : Note} {low more : ℕ} {n n₁ : List ℕ} {o : Out} {c : Cursor} {u : ℕ} (used tag i line after : ℕ) (n₂ : List ℕ) (f : Fine s m low (used + 1) more n n₁ o c u 0) (d : Cursor) → d .place ≡ c .place → d .note ≡ c .note
     → shaped call (f .trees) ≡ member tag (34 ∷ 35 ∷ []) → line ≡ lineAt s i → after ≡ lineAt s (c .place) → (r : Step) → Calls d used u n₁ n₂ line tag after r
-    → Meets s low used more n n₂ (wrap s 15 opening i (keep call (no-call (lineAt s (c .place))) (fine (d .place) (d .mark) (f .trees) 0))) r
+    → Meets s m low used more n n₂ (wrap s 15 opening i (keep call (no-call (lineAt s (c .place))) (fine (d .place) (d .mark) (f .trees) 0))) r
 unfolding held-at
-called {s} {low} {more} {n} {o = o} {c = c} {u = u} used tag i line after n₂ f d p x l a (Done e w) z =
-    let h = keep-fine call (no-call (lineAt s (c .place))) refl (held-at f d p) (x ∙ z .0) in
-    let k = over 15 opening i line h (z .1 .1 .1) l in
+called {s} {m} {low} {more} {n} {o = o} {c = c} {u = u} used tag i line after n₂ f d p y x l a (Done e w) z =
+    let h = keep-fine call (no-call (lineAt s (c .place))) refl (held-at f d p y) (x ∙ z .0) in
+    let k = over 15 opening i line (refl, refl, refl) h (z .1 .1 .1) l in
     let O = wrap s 15 opening i (keep call (no-call (lineAt s (c .place))) (fine (d .place) (d .mark) (f .trees) 0)) in
-    subst (λ (q : Cursor). Fine s low used more n n₂ O q w 0) (sym (z .1 .0)) (subst (λ (q : ℕ). Fine s low used more n n₂ O d q 0) (sym (z .1 .1 .0)) k)
-called {s} {c = c} used tag i line after n₂ f d p x l a (Fail e) z =
-    ap (wrap s 15 opening i) (keep-fail call (no-call (lineAt s (c .place))) refl (held-at f d p) (x ∙ z .0)) ∙ ap (λ (q : ℕ). fail (no-call q)) (sym a) ∙ ap fail (sym (z .1))
+    subst (λ (q : Cursor). Fine s m low used more n n₂ O q w 0) (sym (z .1 .0)) (subst (λ (q : ℕ). Fine s m low used more n n₂ O d q 0) (sym (z .1 .1 .0)) k)
+called {s} {c = c} used tag i line after n₂ f d p y x l a (Fail e) z =
+    ap (wrap s 15 opening i) (keep-fail call (no-call (lineAt s (c .place))) refl (held-at f d p y) (x ∙ z .0)) ∙ ap (λ (q : ℕ). fail (no-call q)) (sym a) ∙ ap fail (sym (z .1))

@@ -19,9 +19,9 @@ use Rattle.tree.specs.Forest.{none, tree, words}
 use Rattle.grammar.specs.Term.{Term, any, leaf, weigh, _⨾_}
 use Rattle.grammar.specs.Reading.{Out, fine, fail, Reader, Readers, Held, read}
 use Rattle.grammar.specs.Productions.{word, named}
-use Rattle.parser.specs.Contract.{Ready, Fine}
+use Rattle.parser.specs.Contract.{Ready, Fine, Ordinary}
 use Rattle.parser.proofs.Steps.{taken, Advanced, took-next, took-kind, took-name, word-is, any-is, name-is}
-use Rattle.parser.proofs.Kit.{passed, both}
+use Rattle.parser.proofs.Kit.{noted-tree, passed, both}
 
 -- what may be relied on after a token
 pub ready-after : {s : List ℕ} {c d : Cursor} {t : Token} {used slack : ℕ} → Formed s → Advanced s c t d → used ≤ 4 * c .place + (4 + slack) → Ready s d used slack
@@ -54,20 +54,20 @@ module _ (s : List ℕ) (rank : Ranks) (limit : ℕ) (R : Readers) (h : Held) (A
     name-says x = name-is s rank limit R h A c ∙ ap taken x
 
     module _ (n : List ℕ) (used more : ℕ) (f : Formed s) (l : used ≤ 4 * c .place + (4 + more)) where
-      pub any-fine : takeNext s c ≡ Took t d → Fine s (c .place + 1) used more n n (Reads any) d used 0
+      pub any-fine : takeNext s c ≡ Took t d → Fine s (c .note) (c .place + 1) used more n n (Reads any) d used 0
       any-fine x = passed n used more f (took-next s c x) (any-says x) l
 
-      pub name-fine : expectName s c ≡ Took t d → Fine s (c .place + 1) used more n n (Reads named) d used 0
+      pub name-fine : expectName s c ≡ Took t d → Fine s (c .note) (c .place + 1) used more n n (Reads named) d used 0
       name-fine x = passed n used more f (took-name s c x) (name-says x) l
 
-      pub word-fine : (k : ℕ) → eqb k 59 ≡ false → expecting k ≡ k + 1 → expectNext s c k ≡ Took t d → Fine s (c .place + 1) used more n n (Reads (word k)) d used 0
+      pub word-fine : (k : ℕ) → eqb k 59 ≡ false → expecting k ≡ k + 1 → expectNext s c k ≡ Took t d → Fine s (c .note) (c .place + 1) used more n n (Reads (word k)) d used 0
       word-fine k r q x = passed n used more f (took-kind s c k x) (word-is s rank limit R h A c k r q ∙ ap taken x) l
 
   -- a leaf of the token just taken; its payload as a weight
   module _ (n : List ℕ) (used more : ℕ) {value : ℕ} (p : value ≡ payload s (c .place - 1)) (i : c .place < records s) where
-    pub leaf-fine : {n′ : List ℕ} {u : ℕ} (tag : ℕ) → u ≡ used + 1 → u ≤ 4 * c .place + more → n′ ≡ sets n (used * 4) (words tag value 0 1) → Fine s (c .place) used more n n′ (Reads (leaf tag)) c u 0
+    pub leaf-fine : {n′ : List ℕ} {u : ℕ} (tag : ℕ) → Ordinary tag → u ≡ used + 1 → u ≤ 4 * c .place + more → n′ ≡ sets n (used * 4) (words tag value 0 1) → Fine s (c .note) (c .place) used more n n′ (Reads (leaf tag)) c u 0
     unfolding read
-    leaf-fine tag q r w =
+    leaf-fine tag y q r w =
         record {
           trees = tree tag (payload s (c .place - 1)) 0 (c .place - 1) none none;
           says = refl;
@@ -76,17 +76,18 @@ module _ (s : List ℕ) (rank : Ranks) (limit : ℕ) (R : Readers) (h : Held) (A
           at = i;
           later = omega arith;
           room = r;
+          noted = sym (noted-tree s tag (payload s (c .place - 1)) 0 (c .place - 1) none none (c .note) y);
         }
 
-    pub weigh-fine : used ≤ 4 * c .place + more → Fine s (c .place) used more n n (Reads weigh) c used value
+    pub weigh-fine : used ≤ 4 * c .place + more → Fine s (c .note) (c .place) used more n n (Reads weigh) c used value
     unfolding read
-    weigh-fine r = record { trees = none; says = ap (fine (c .place) (c .mark) none) (sym p); grown = omega arith; laid = refl; at = i; later = omega arith; room = r }
+    weigh-fine r = record { trees = none; says = ap (fine (c .place) (c .mark) none) (sym p); grown = omega arith; laid = refl; at = i; later = omega arith; room = r; noted = refl }
 
 -- a token, and a leaf of it
-pub leaf-after : (s : List ℕ) (rank : Ranks) (limit : ℕ) (R : Readers) (h : Held) (A : Reader) (c : Cursor) {t : Token} {d : Cursor} (n : List ℕ) {n′ : List ℕ} (used more tag : ℕ) → Formed s → used + 1 ≤ 4 * c .place + (4 + more)
+pub leaf-after : (s : List ℕ) (rank : Ranks) (limit : ℕ) (R : Readers) (h : Held) (A : Reader) (c : Cursor) {t : Token} {d : Cursor} (n : List ℕ) {n′ : List ℕ} (used more tag : ℕ) → Ordinary tag → Formed s → used + 1 ≤ 4 * c .place + (4 + more)
     → n′ ≡ sets n (used * 4) (words tag (t .payload) 0 1) → (x : Term) → read s rank limit R h x A (c .place) (c .mark) ≡ fine (d .place) (d .mark) none 0 → Advanced s c t d
-    → Fine s (c .place + 1) used more n n′ (read s rank limit R h (x ⨾ leaf tag) A (c .place) (c .mark)) d (used + 1) 0
+    → Fine s (c .note) (c .place + 1) used more n n′ (read s rank limit R h (x ⨾ leaf tag) A (c .place) (c .mark)) d (used + 1) 0
 unfolding read
-leaf-after s rank limit R h A c {d = d} n used more tag f l w x e a =
+leaf-after s rank limit R h A c {d = d} n used more tag y f l w x e a =
     let b = passed n used more f a e (omega arith) in
-    both {low′ = d .place} (read s rank limit R h (leaf tag) A) b (leaf-fine s rank limit R h A d n used more (paid a) (b .at) tag refl (omega (arith, a .place)) w) (omega arith)
+    both {low′ = d .place} (read s rank limit R h (leaf tag) A) b (leaf-fine s rank limit R h A d n used more (paid a) (b .at) tag y refl (omega (arith, a .place)) w) (omega arith)

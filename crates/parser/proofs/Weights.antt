@@ -9,6 +9,7 @@ use Rattle.stream.specs.Kinds.{LeftParen, RightParen, LeftBrace, String}
 use Rattle.stream.specs.Words.{kind}
 use Rattle.stream.specs.Reader.{reached}
 use Rattle.stream.specs.declared.reader.Cursor.{Cursor}
+use Rattle.stream.specs.declared.reader.Note.{Note}
 use Rattle.stream.specs.declared.reader.Refusal.{Refusal}
 use Rattle.operators.specs.Ranks.{Ranks, ranks}
 use Rattle.operators.specs.declared.Ranking.{Ranking}
@@ -26,8 +27,8 @@ abbrev weightless : Out → Out
 weightless (fine q m t v) = fine q m t 0
 weightless (fail e) = fail e
 
-pub light-fine : {s : List ℕ} {low used more : ℕ} {n n′ : List ℕ} {o o′ : Out} {c : Cursor} {u v : ℕ} → o′ ≡ weightless o → Fine s low used more n n′ o c u v → Fine s low used more n n′ o′ c u 0
-light-fine e f = record { trees = f .trees; says = e ∙ ap weightless (f .says); grown = f .grown; laid = f .laid; at = f .at; later = f .later; room = f .room }
+pub light-fine : {s : List ℕ} {q : Note} {low used more : ℕ} {n n′ : List ℕ} {o o′ : Out} {c : Cursor} {u v : ℕ} → o′ ≡ weightless o → Fine s q low used more n n′ o c u v → Fine s q low used more n n′ o′ c u 0
+light-fine e f = record { trees = f .trees; says = e ∙ ap weightless (f .says); grown = f .grown; laid = f .laid; at = f .at; later = f .later; room = f .room; noted = f .noted }
 
 pub light-fail : {o o′ : Out} {e : Refusal} → o′ ≡ weightless o → o ≡ fail e → o′ ≡ fail e
 light-fail x y = x ∙ ap weightless y

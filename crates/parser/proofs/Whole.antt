@@ -1,5 +1,6 @@
 -- The whole stream: what the reading of it answers, and the promise of the public calls. Assumes nothing.
 use mathlib.Core.Path.{_≡_, refl, sym, ap, _∙_, subst}
+use mathlib.Core.Bool.{false}
 use mathlib.Core.List.{List}
 use Prim.Native.Nat.{ℕ, _*_, _≤_, _<_}
 use native.Mathlib.Omega.{arith}
@@ -9,6 +10,7 @@ use lib.Seq.{sets}
 use Rattle.stream.specs.Formed.{Formed, Malformed}
 use Rattle.stream.specs.Reader.{told, lookAhead}
 use Rattle.stream.specs.declared.reader.Cursor.{Cursor}
+use Rattle.stream.specs.declared.reader.Note.{Note}
 use Rattle.stream.specs.declared.reader.Token.{Token}
 use Rattle.stream.specs.declared.reader.Refusal.{Refusal}
 use Rattle.stream.specs.declared.reader.Look.the-variants.{Seen, End}
@@ -23,27 +25,28 @@ use Rattle.grammar.specs.Productions.{block, retstat, explist}
 use Rattle.grammar.specs.Levels.{readers, finish, chunk}
 use Rattle.grammar.proofs.Complete.{yes-case, no-case}
 use Rattle.grammar.proofs.Theorems.{sound, complete, unique, is-ranked}
+use Rattle.quarrel.specs.Notes.{NONE, note, noted}
 use Rattle.parser.specs.Contract.{Fine, Meets, says}
 use Rattle.parser.specs.declared.Step.{Step}
 use Rattle.parser.specs.declared.Step.the-variants as Step·
-use Rattle.parser.specs.Answered.{Answered, refusing, counting, Zeroed}
+use Rattle.parser.specs.Answered.{Answered, Noted, refusing, counting, Zeroed}
 use Rattle.parser.proofs.Steps.{saw, ran-out}
 use Rattle.parser.proofs.Around.{settled}
 
 abbrev pub start : Cursor
-start = record { place = 0; mark = 0 }
+start = record { place = 0; mark = 0; note = note false NONE NONE }
 
 -- what was met, by the answer that came
-module _ (s : List ℕ) (low used more : ℕ) (n n′ : List ℕ) where
-  pub failed : (o : Out) (r : Step) {e : Refusal} → Meets s low used more n n′ o r → r ≡ Step·.Fail e → o ≡ fail e
+module _ (s : List ℕ) (b : Note) (low used more : ℕ) (n n′ : List ℕ) where
+  pub failed : (o : Out) (r : Step) {e : Refusal} → Meets s b low used more n n′ o r → r ≡ Step·.Fail e → o ≡ fail e
   failed o (Step·.Done c u) m q = let z : _≡_ {A = ℕ} 0 1 = cc in absurd (omega arith)
   failed o (Step·.Fail x) {e} m q = let z : x ≡ e = cc in m ∙ ap fail z
 
-  pub done : (o : Out) (r : Step) {c : Cursor} {u : ℕ} → Meets s low used more n n′ o r → r ≡ Step·.Done c u → Fine s low used more n n′ o c u 0
+  pub done : (o : Out) (r : Step) {c : Cursor} {u : ℕ} → Meets s b low used more n n′ o r → r ≡ Step·.Done c u → Fine s b low used more n n′ o c u 0
   done o (Step·.Done d w) {c} {u} m q =
       let x : d ≡ c = cc in
       let y : w ≡ u = cc in
-      subst (λ (z : Cursor). Fine s low used more n n′ o z u 0) x (subst (λ (z : ℕ). Fine s low used more n n′ o d z 0) y m)
+      subst (λ (z : Cursor). Fine s b low used more n n′ o z u 0) x (subst (λ (z : ℕ). Fine s b low used more n n′ o d z 0) y m)
   done o (Step·.Fail x) m q = let z : _≡_ {A = ℕ} 0 1 = cc in absurd (omega arith)
 
 module _ (s : List ℕ) (k : Ranking) where
@@ -55,8 +58,8 @@ module _ (s : List ℕ) (k : Ranking) where
   pub block-fails : {e : Refusal} → says s k 199 block start ≡ fail e → chunk s (ranks k) 199 ≡ fail e
   block-fails x = chunk-block ∙ ap (finish s) x
 
-  module _ {n n′ : List ℕ} {c d : Cursor} {u : ℕ} (f : Fine s 0 0 1 n n′ (says s k 199 block start) c u 0) where
-    pub chunk-ends : lookAhead s c 0 ≡ End d → Fine s 0 0 1 n n′ (chunk s (ranks k) 199) d u 0
+  module _ {n n′ : List ℕ} {c d : Cursor} {u : ℕ} (f : Fine s (note false NONE NONE) 0 0 1 n n′ (says s k 199 block start) c u 0) where
+    pub chunk-ends : lookAhead s c 0 ≡ End d → Fine s (note false NONE NONE) 0 0 1 n n′ (chunk s (ranks k) 199) d u 0
     chunk-ends x =
         let r = ran-out s c x in
         let p : d .place ≡ c .place = ap (λ (z : Cursor). z .place) (r .cursor) in
@@ -68,6 +71,7 @@ module _ (s : List ℕ) (k : Ranking) where
           at = omega (arith, f .at);
           later = omega arith;
           room = omega (arith, f .room);
+          noted = ap (λ (z : Cursor). z .note) (r .cursor) ∙ f .noted;
         }
 
     pub chunk-left : {t : Token} → lookAhead s c 0 ≡ Seen t d → chunk s (ranks k) 199 ≡ fail (record { number = 2; line = told s (d .mark); found = 0; expected = 0 })
@@ -103,7 +107,7 @@ module _ (s : List ℕ) (k : Ranking) where
           refuses = λ e′ g m y. (let q : e ≡ e′ = cc (x, y) in ap refusing q, z);
         }
 
-    module _ {c : Cursor} {t : Forest} (f : Formed s) (x : chunk s (ranks k) 199 ≡ fine (c .place) (c .mark) t 0) where
+    module _ (c : Cursor) {t : Forest} (f : Formed s) (x : chunk s (ranks k) 199 ≡ fine (c .place) (c .mark) t 0) where
       pub answered-room : n′ ≡ sets n 0 (flat t) → size t * 4 ≤ length n → Answered s k n n′ (counting 0 (size t * 4))
       answered-room l r =
           record {
@@ -121,3 +125,18 @@ module _ (s : List ℕ) (k : Ranking) where
             short = λ u g d i. (ap (λ (v : Forest). counting 7 (size v * 4)) (its-own x d), z);
             refuses = λ e g m y. absurd (m t (sound s (ranks k) 199 (is-ranked k) x));
           }
+
+  -- the first that quarrels
+  pub noted-malformed : {p : ℕ} → Malformed s p → Noted s k NONE
+  noted-malformed b = record { derived = λ t f. absurd (formed-not-malformed f b); underived = λ n. refl; unformed = λ p m. refl }
+
+  pub noted-refused : {e : Refusal} → chunk s (ranks k) 199 ≡ fail e → Noted s k NONE
+  noted-refused x = record { derived = λ t f d. absurd (none-derived x d); underived = λ n. refl; unformed = λ p m. refl }
+
+  pub noted-read : (c : Cursor) {t : Forest} {first : ℕ} → Formed s → chunk s (ranks k) 199 ≡ fine (c .place) (c .mark) t 0 → c .note ≡ noted s t (note false NONE NONE) → first ≡ c .note .found → Noted s k first
+  noted-read c {t = t} f x q e =
+      record {
+        derived = λ u g d. e ∙ ap (λ (z : Note). z .found) q ∙ ap (λ (z : Forest). noted s z (note false NONE NONE) .found) (its-own x d);
+        underived = λ n. absurd (n t (sound s (ranks k) 199 (is-ranked k) x));
+        unformed = λ p b. absurd (formed-not-malformed f b);
+      }

@@ -1,6 +1,7 @@
 -- What a reading promises of its five numbers and of every word of the node array, for any words. Assumes nothing: these are definitions.
 use mathlib.Core.Path.{_≡_}
 use Prim.Native.Nat.{ℕ, _*_, _≤_, _<_}
+use mathlib.Core.Bool.{false}
 use mathlib.Core.List.{List, _++_}
 use lib.ListN.{length, drop, replicate}
 use Rattle.stream.specs.Formed.{Formed, Malformed}
@@ -11,6 +12,7 @@ use Rattle.tree.specs.Forest.{Forest, size, flat}
 use Rattle.grammar.specs.Grammar.{Chunk}
 use Rattle.grammar.specs.Reading.{fail}
 use Rattle.grammar.specs.Levels.{chunk}
+use Rattle.quarrel.specs.Notes.{NONE, note, noted}
 use Rattle.parser.specs.declared.Answer.{Answer}
 
 -- 01's numbers of a refusal, and of what is told by a count of words alone
@@ -31,3 +33,9 @@ pub record Answered (s : List ℕ) (r : Ranking) (n n′ : List ℕ) (a : Answer
   pub accepts : (t : Forest) → Formed s → Chunk s (ranks r) 199 t → size t * 4 ≤ length n → (a ≡ counting 0 (size t * 4)) × (n′ ≡ flat t ++ drop (size t * 4) n)
   pub short : (t : Forest) → Formed s → Chunk s (ranks r) 199 t → length n < size t * 4 → (a ≡ counting 7 (size t * 4)) × Zeroed n n′
   pub refuses : (e : Refusal) → Formed s → ((t : Forest) → Chunk s (ranks r) 199 t → ⊥) → chunk s (ranks r) 199 ≡ fail e → (a ≡ refusing e) × Zeroed n n′
+
+-- the first token that quarrels, as it is noted over the tree that is derived; none, where none is derived or the stream is malformed
+pub record Noted (s : List ℕ) (r : Ranking) (first : ℕ) : Type 0 where
+  pub derived : (t : Forest) → Formed s → Chunk s (ranks r) 199 t → first ≡ noted s t (note false NONE NONE) .found
+  pub underived : ((t : Forest) → Chunk s (ranks r) 199 t → ⊥) → first ≡ NONE
+  pub unformed : (p : ℕ) → Malformed s p → first ≡ NONE

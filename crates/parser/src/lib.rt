@@ -47,11 +47,15 @@ use stream::kinds::WHILE;
 use stream::reader::Cursor;
 use stream::reader::Look;
 use stream::reader::Next;
+use stream::reader::Note;
 use stream::reader::Refusal;
 ghost use mathlib.Core.Path.{_≡_};
 ghost use mathlib.Core.List.{[], _∷_};
 ghost use Prim.Native.Nat.{ℕ, _+_, _*_, _-_, _≤_, _<_};
+ghost use mathlib.Core.Bool.{false};
+ghost use lib.Dec.{eqb};
 ghost use lib.Seq.{sets};
+ghost use Rattle.quarrel.specs.Notes.{NONE, note};
 ghost use Rattle.stream.specs.Kinds.{RightParen, SemiColon};
 ghost use Rattle.stream.specs.Words.{records, kind as kindAt, line as lineAt, payload};
 ghost use Rattle.stream.specs.Reader.{told, expectNext};
@@ -65,10 +69,10 @@ ghost use Rattle.grammar.specs.Levels.{readers, chunk};
 ghost use Rattle.grammar.specs.Productions.{look, nameleaf, explist, retstat, block, parlist, funcbody, field, table, args, suffix, primary, suffixed, simple, head, tails};
 ghost use Rattle.grammar.specs.Productions.{ifstat, whilestat, dostat, forstat, repeatstat, functionstat, localfunction, localstat, label, breakstat, gotostat, exprstat};
 ghost use Rattle.parser.specs.Parts as P;
-ghost use Rattle.parser.specs.Contract.{Ready, Meets, Sums, Ends, Suffixes, under, says, kids, itself, stepped, counting, tagging, Closes, Calls};
+ghost use Rattle.parser.specs.Contract.{Ready, Meeting, Meets, Sums, Ends, Suffixes, counts, begins, backs, Ordinary, under, says, kids, itself, stepped, counting, tagging, Closes, Calls};
 ghost use Rattle.stream.specs.Formed.{Formed};
 ghost use lib.ListN.{length, replicate};
-ghost use Rattle.parser.specs.Answered.{Answered, refusing};
+ghost use Rattle.parser.specs.Answered.{Answered, Noted, refusing};
 
 // Where a reading has come to, with the records that are used by then; or why it is refused.
 pub enum Step {
@@ -123,8 +127,8 @@ fn close(
 
 // A token that is a record by itself.
 fn leaf(stream: &[u64], nodes: &mut [u64], c: Cursor, used: usize, tag: u64) -> Step
-    requires { ⌜ Ready (now stream) c used 2 ⌝ }
-    ensures { λ r. ⌜ ((k : Ranking) (h : ℕ) → Meets (now (stream .entry)) (c .place + 1) used 0 (now (nodes .entry)) (now (nodes .exit)) (says (now (stream .entry)) k h (any ⨾ leaf tag) c) r) ⌝ }
+    requires { ⌜ Ready (now stream) c used 2 × Ordinary tag ⌝ }
+    ensures { λ r. ⌜ ((k : Ranking) (h : ℕ) → Meets (now (stream .entry)) (c .note) (c .place + 1) used 0 (now (nodes .entry)) (now (nodes .exit)) (says (now (stream .entry)) k h (any ⨾ leaf tag) c) r) ⌝ }
 {
     match stream::reader::take_next(stream, c) {
         Next::Fail(e) => Step::Fail(e),
@@ -138,7 +142,7 @@ fn leaf(stream: &[u64], nodes: &mut [u64], c: Cursor, used: usize, tag: u64) -> 
 // Name
 fn name(stream: &[u64], nodes: &mut [u64], c: Cursor, used: usize) -> Step
     requires { ⌜ Ready (now stream) c used 3 ⌝ }
-    ensures { λ r. ⌜ ((k : Ranking) (h : ℕ) → Meets (now (stream .entry)) (c .place + 1) used 0 (now (nodes .entry)) (now (nodes .exit)) (says (now (stream .entry)) k h nameleaf c) r) ⌝ }
+    ensures { λ r. ⌜ ((k : Ranking) (h : ℕ) → Meets (now (stream .entry)) (c .note) (c .place + 1) used 0 (now (nodes .entry)) (now (nodes .exit)) (says (now (stream .entry)) k h nameleaf c) r) ⌝ }
 {
     match stream::reader::expect_name(stream, c) {
         Next::Fail(e) => Step::Fail(e),
@@ -152,7 +156,7 @@ fn name(stream: &[u64], nodes: &mut [u64], c: Cursor, used: usize) -> Step
 // {',' Name}
 fn names(stream: &[u64], nodes: &mut [u64], c: Cursor, used: usize) -> Sum
     requires { ⌜ Ready (now stream) c used 0 ⌝ }
-    ensures { λ r. ⌜ ((k : Ranking) (h : ℕ) → Sums (now (stream .entry)) (c .place) (c .place) used 0 (now (nodes .entry)) (now (nodes .exit)) (says (now (stream .entry)) k h P.names c) r) ⌝ }
+    ensures { λ r. ⌜ ((k : Ranking) (h : ℕ) → Sums (now (stream .entry)) (c .note) (c .place) (c .place) used 0 (now (nodes .entry)) (now (nodes .exit)) (says (now (stream .entry)) k h P.names c) r) ⌝ }
 {
     let mut at = c;
     let mut u = used;
@@ -186,7 +190,7 @@ fn names(stream: &[u64], nodes: &mut [u64], c: Cursor, used: usize) -> Sum
 // attnamelist ::= Name {',' Name}
 fn namelist(stream: &[u64], nodes: &mut [u64], c: Cursor, used: usize) -> Sum
     requires { ⌜ Ready (now stream) c used 3 ⌝ }
-    ensures { λ r. ⌜ ((k : Ranking) (h : ℕ) → Sums (now (stream .entry)) (c .place) (c .place + 1) used 0 (now (nodes .entry)) (now (nodes .exit)) (says (now (stream .entry)) k h (nameleaf ⨾ plus 1 ⨾ P.names) c) r) ⌝ }
+    ensures { λ r. ⌜ ((k : Ranking) (h : ℕ) → Sums (now (stream .entry)) (c .note) (c .place) (c .place + 1) used 0 (now (nodes .entry)) (now (nodes .exit)) (says (now (stream .entry)) k h (nameleaf ⨾ plus 1 ⨾ P.names) c) r) ⌝ }
 {
     match name(stream, nodes, c, used) {
         Step::Fail(e) => Sum::Fail(e),
@@ -200,7 +204,7 @@ fn namelist(stream: &[u64], nodes: &mut [u64], c: Cursor, used: usize) -> Sum
 // parlist ::= Name [',' parlist] | '...'; the number is 2 x parameters + varargs
 fn parameters(stream: &[u64], nodes: &mut [u64], c: Cursor, used: usize) -> Sum
     requires { ⌜ Ready (now stream) c used 0 ⌝ }
-    ensures { λ r. ⌜ ((k : Ranking) (h : ℕ) → Sums (now (stream .entry)) (c .place) (c .place + 1) used 0 (now (nodes .entry)) (now (nodes .exit)) (says (now (stream .entry)) k h parlist c) r) ⌝ }
+    ensures { λ r. ⌜ ((k : Ranking) (h : ℕ) → Sums (now (stream .entry)) (c .note) (c .place) (c .place + 1) used 0 (now (nodes .entry)) (now (nodes .exit)) (says (now (stream .entry)) k h parlist c) r) ⌝ }
 {
     let mut at = c;
     let mut u = used;
@@ -243,7 +247,7 @@ fn parameters(stream: &[u64], nodes: &mut [u64], c: Cursor, used: usize) -> Sum
 // ['(' Name ..] of a definition: nothing where `)` comes next
 fn parlist(stream: &[u64], nodes: &mut [u64], c: Cursor, used: usize) -> Sum
     requires { ⌜ Ready (now stream) c used 0 ⌝ }
-    ensures { λ r. ⌜ ((k : Ranking) (h : ℕ) → Sums (now (stream .entry)) (c .place) (c .place) used 0 (now (nodes .entry)) (now (nodes .exit)) (says (now (stream .entry)) k h (on check (RightParen ∷ []) empty parlist) c) r) ⌝ }
+    ensures { λ r. ⌜ ((k : Ranking) (h : ℕ) → Sums (now (stream .entry)) (c .note) (c .place) (c .place) used 0 (now (nodes .entry)) (now (nodes .exit)) (says (now (stream .entry)) k h (on check (RightParen ∷ []) empty parlist) c) r) ⌝ }
 {
     let closed = stream::reader::check_ahead(stream, c, 0, RIGHT_PAREN);
     let found = closed.found;
@@ -258,7 +262,7 @@ fn parlist(stream: &[u64], nodes: &mut [u64], c: Cursor, used: usize) -> Sum
 // {'.' Name} [':' Name]; the number is 2 x fields + method
 fn fieldnames(stream: &[u64], nodes: &mut [u64], c: Cursor, used: usize) -> Sum
     requires { ⌜ Ready (now stream) c used 0 ⌝ }
-    ensures { λ r. ⌜ ((k : Ranking) (h : ℕ) → Sums (now (stream .entry)) (c .place) (c .place) used 0 (now (nodes .entry)) (now (nodes .exit)) (says (now (stream .entry)) k h P.fieldnames c) r) ⌝ }
+    ensures { λ r. ⌜ ((k : Ranking) (h : ℕ) → Sums (now (stream .entry)) (c .note) (c .place) (c .place) used 0 (now (nodes .entry)) (now (nodes .exit)) (says (now (stream .entry)) k h P.fieldnames c) r) ⌝ }
 {
     let mut at = c;
     let mut u = used;
@@ -302,7 +306,7 @@ fn fieldnames(stream: &[u64], nodes: &mut [u64], c: Cursor, used: usize) -> Sum
 // ':' Name
 fn method_name(stream: &[u64], nodes: &mut [u64], c: Cursor, used: usize) -> Step
     requires { ⌜ Ready (now stream) c used 0 ⌝ }
-    ensures { λ r. ⌜ ((k : Ranking) (h : ℕ) → Meets (now (stream .entry)) (c .place + 1) used 0 (now (nodes .entry)) (now (nodes .exit)) (says (now (stream .entry)) k h (any ⨾ nameleaf) c) r) ⌝ }
+    ensures { λ r. ⌜ ((k : Ranking) (h : ℕ) → Meets (now (stream .entry)) (c .note) (c .place + 1) used 0 (now (nodes .entry)) (now (nodes .exit)) (says (now (stream .entry)) k h (any ⨾ nameleaf) c) r) ⌝ }
 {
     match stream::reader::take_next(stream, c) {
         Next::Fail(e) => Step::Fail(e),
@@ -313,7 +317,7 @@ fn method_name(stream: &[u64], nodes: &mut [u64], c: Cursor, used: usize) -> Ste
 // parse_label_statement: '::' Name '::'
 fn label(stream: &[u64], nodes: &mut [u64], c: Cursor, used: usize, line: u64) -> Step
     requires { ⌜ Ready (now stream) c used 1 × (line ≡ lineAt (now stream) (c .place)) ⌝ }
-    ensures { λ r. ⌜ ((k : Ranking) (h : ℕ) → Meets (now (stream .entry)) (c .place + 1) used 0 (now (nodes .entry)) (now (nodes .exit)) (says (now (stream .entry)) k h label c) r) ⌝ }
+    ensures { λ r. ⌜ ((k : Ranking) (h : ℕ) → Meets (now (stream .entry)) (c .note) (c .place + 1) used 0 (now (nodes .entry)) (now (nodes .exit)) (says (now (stream .entry)) k h label c) r) ⌝ }
 {
     let d = match stream::reader::expect_next(stream, c, DOUBLE_COLON) {
         Next::Took(_, d) => d,
@@ -333,7 +337,7 @@ fn label(stream: &[u64], nodes: &mut [u64], c: Cursor, used: usize, line: u64) -
 // parse_goto_statement: goto Name
 fn goto(stream: &[u64], nodes: &mut [u64], c: Cursor, used: usize, line: u64) -> Step
     requires { ⌜ Ready (now stream) c used 1 × (line ≡ lineAt (now stream) (c .place)) ⌝ }
-    ensures { λ r. ⌜ ((k : Ranking) (h : ℕ) → Meets (now (stream .entry)) (c .place + 1) used 0 (now (nodes .entry)) (now (nodes .exit)) (says (now (stream .entry)) k h gotostat c) r) ⌝ }
+    ensures { λ r. ⌜ ((k : Ranking) (h : ℕ) → Meets (now (stream .entry)) (c .note) (c .place + 1) used 0 (now (nodes .entry)) (now (nodes .exit)) (says (now (stream .entry)) k h gotostat c) r) ⌝ }
 {
     let d = match stream::reader::expect_next(stream, c, GOTO) {
         Next::Took(_, d) => d,
@@ -350,7 +354,7 @@ fn goto(stream: &[u64], nodes: &mut [u64], c: Cursor, used: usize, line: u64) ->
 // break
 fn stop(stream: &[u64], nodes: &mut [u64], c: Cursor, used: usize, line: u64) -> Step
     requires { ⌜ Ready (now stream) c used 1 × (line ≡ lineAt (now stream) (c .place)) ⌝ }
-    ensures { λ r. ⌜ ((k : Ranking) (h : ℕ) → Meets (now (stream .entry)) (c .place + 1) used 0 (now (nodes .entry)) (now (nodes .exit)) (says (now (stream .entry)) k h breakstat c) r) ⌝ }
+    ensures { λ r. ⌜ ((k : Ranking) (h : ℕ) → Meets (now (stream .entry)) (c .note) (c .place + 1) used 0 (now (nodes .entry)) (now (nodes .exit)) (says (now (stream .entry)) k h breakstat c) r) ⌝ }
 {
     match stream::reader::take_next(stream, c) {
         Next::Fail(e) => Step::Fail(e),
@@ -456,7 +460,7 @@ fn block(
     g: usize,
 ) -> Step
     requires { ⌜ Ready (now stream) c used 0 ⌝ }
-    ensures { λ r. ⌜ Meets (now (stream .entry)) (c .place) used 1 (now (nodes .entry)) (now (nodes .exit)) (says (now (stream .entry)) ranking g block c) r ⌝ }
+    ensures { λ r. ⌜ Meets (now (stream .entry)) (c .note) (c .place) used 1 (now (nodes .entry)) (now (nodes .exit)) (says (now (stream .entry)) ranking g block c) r ⌝ }
 {
     match stats(stream, nodes, ranking, c, used + 1, g) {
         Step::Fail(e) => Step::Fail(e),
@@ -486,7 +490,7 @@ fn stats(
     g: usize,
 ) -> Step
     requires { ⌜ Ready (now stream) c used 1 ⌝ }
-    ensures { λ r. ⌜ Meets (now (stream .entry)) (c .place) used 1 (now (nodes .entry)) (now (nodes .exit)) (says (now (stream .entry)) ranking g P.stats c) r ⌝ }
+    ensures { λ r. ⌜ Meets (now (stream .entry)) (c .note) (c .place) used 1 (now (nodes .entry)) (now (nodes .exit)) (says (now (stream .entry)) ranking g P.stats c) r ⌝ }
 {
     let mut at = c;
     let mut u = used;
@@ -546,7 +550,7 @@ fn stat(
     g: usize,
 ) -> Step
     requires { ⌜ Ready (now stream) c used 1 ⌝ }
-    ensures { λ r. ⌜ Meets (now (stream .entry)) (c .place + 1) used 0 (now (nodes .entry)) (now (nodes .exit)) (readers (now (stream .entry)) (ranks ranking) g .stats (c .place) (c .mark)) r ⌝ }
+    ensures { λ r. ⌜ Meets (now (stream .entry)) (c .note) (c .place + 1) used 0 (now (nodes .entry)) (now (nodes .exit)) (readers (now (stream .entry)) (ranks ranking) g .stats (c .place) (c .mark)) r ⌝ }
 {
     if g == 0 {
         return deep(stream, c);
@@ -593,7 +597,7 @@ fn ret(
     line: u64,
 ) -> Step
     requires { ⌜ Ready (now stream) c used 1 × (line ≡ lineAt (now stream) (c .place)) ⌝ }
-    ensures { λ r. ⌜ Meets (now (stream .entry)) (c .place + 1) used 0 (now (nodes .entry)) (now (nodes .exit)) (says (now (stream .entry)) ranking g retstat c) r ⌝ }
+    ensures { λ r. ⌜ Meets (now (stream .entry)) (c .note) (c .place + 1) used 0 (now (nodes .entry)) (now (nodes .exit)) (says (now (stream .entry)) ranking g retstat c) r ⌝ }
 {
     let d = match stream::reader::expect_next(stream, c, RETURN) {
         Next::Took(_, d) => d,
@@ -631,7 +635,7 @@ fn cond(
     line: u64,
 ) -> Step
     requires { ⌜ Ready (now stream) c used 1 × (line ≡ lineAt (now stream) (c .place)) ⌝ }
-    ensures { λ r. ⌜ Meets (now (stream .entry)) (c .place + 1) used 0 (now (nodes .entry)) (now (nodes .exit)) (says (now (stream .entry)) ranking g ifstat c) r ⌝ }
+    ensures { λ r. ⌜ Meets (now (stream .entry)) (c .note) (c .place + 1) used 0 (now (nodes .entry)) (now (nodes .exit)) (says (now (stream .entry)) ranking g ifstat c) r ⌝ }
 {
     let d = match stream::reader::expect_next(stream, c, IF) {
         Next::Took(_, d) => d,
@@ -675,7 +679,7 @@ fn arm(
     g: usize,
 ) -> Step
     requires { ⌜ Ready (now stream) c used 1 ⌝ }
-    ensures { λ r. ⌜ Meets (now (stream .entry)) (c .place + 1) used 1 (now (nodes .entry)) (now (nodes .exit)) (says (now (stream .entry)) ranking g P.arm c) r ⌝ }
+    ensures { λ r. ⌜ Meets (now (stream .entry)) (c .note) (c .place + 1) used 1 (now (nodes .entry)) (now (nodes .exit)) (says (now (stream .entry)) ranking g P.arm c) r ⌝ }
 {
     match sub(stream, nodes, ranking, MIN_PRIORITY, c, used, g) {
         Step::Fail(e) => Step::Fail(e),
@@ -696,7 +700,7 @@ fn arms(
     g: usize,
 ) -> Sum
     requires { ⌜ Ready (now stream) c used 1 ⌝ }
-    ensures { λ r. ⌜ Sums (now (stream .entry)) (c .place) (c .place) used 1 (now (nodes .entry)) (now (nodes .exit)) (says (now (stream .entry)) ranking g P.arms c) r ⌝ }
+    ensures { λ r. ⌜ Sums (now (stream .entry)) (c .note) (c .place) (c .place) used 1 (now (nodes .entry)) (now (nodes .exit)) (says (now (stream .entry)) ranking g P.arms c) r ⌝ }
 {
     let mut at = c;
     let mut u = used;
@@ -737,7 +741,7 @@ fn ended(
     g: usize,
 ) -> Step
     requires { ⌜ Ready (now stream) c used 0 ⌝ }
-    ensures { λ r. ⌜ Meets (now (stream .entry)) (c .place + 1) used 0 (now (nodes .entry)) (now (nodes .exit)) (says (now (stream .entry)) ranking g P.ended c) r ⌝ }
+    ensures { λ r. ⌜ Meets (now (stream .entry)) (c .note) (c .place + 1) used 0 (now (nodes .entry)) (now (nodes .exit)) (says (now (stream .entry)) ranking g P.ended c) r ⌝ }
 {
     match block(stream, nodes, ranking, c, used, g) {
         Step::Fail(e) => Step::Fail(e),
@@ -755,7 +759,7 @@ fn body(
     g: usize,
 ) -> Step
     requires { ⌜ Ready (now stream) c used 0 ⌝ }
-    ensures { λ r. ⌜ Meets (now (stream .entry)) (c .place + 1) used 0 (now (nodes .entry)) (now (nodes .exit)) (says (now (stream .entry)) ranking g P.body c) r ⌝ }
+    ensures { λ r. ⌜ Meets (now (stream .entry)) (c .note) (c .place + 1) used 0 (now (nodes .entry)) (now (nodes .exit)) (says (now (stream .entry)) ranking g P.body c) r ⌝ }
 {
     match expect(stream, c, used, DO) {
         Step::Fail(e) => Step::Fail(e),
@@ -774,7 +778,7 @@ fn whiles(
     line: u64,
 ) -> Step
     requires { ⌜ Ready (now stream) c used 1 × (line ≡ lineAt (now stream) (c .place)) ⌝ }
-    ensures { λ r. ⌜ Meets (now (stream .entry)) (c .place + 1) used 0 (now (nodes .entry)) (now (nodes .exit)) (says (now (stream .entry)) ranking g whilestat c) r ⌝ }
+    ensures { λ r. ⌜ Meets (now (stream .entry)) (c .note) (c .place + 1) used 0 (now (nodes .entry)) (now (nodes .exit)) (says (now (stream .entry)) ranking g whilestat c) r ⌝ }
 {
     let d = match stream::reader::expect_next(stream, c, WHILE) {
         Next::Took(_, d) => d,
@@ -802,7 +806,7 @@ fn dos(
     line: u64,
 ) -> Step
     requires { ⌜ Ready (now stream) c used 1 × (line ≡ lineAt (now stream) (c .place)) ⌝ }
-    ensures { λ r. ⌜ Meets (now (stream .entry)) (c .place + 1) used 0 (now (nodes .entry)) (now (nodes .exit)) (says (now (stream .entry)) ranking g dostat c) r ⌝ }
+    ensures { λ r. ⌜ Meets (now (stream .entry)) (c .note) (c .place + 1) used 0 (now (nodes .entry)) (now (nodes .exit)) (says (now (stream .entry)) ranking g dostat c) r ⌝ }
 {
     let d = match stream::reader::take_next(stream, c) {
         Next::Took(_, d) => d,
@@ -827,7 +831,7 @@ fn fors(
     line: u64,
 ) -> Step
     requires { ⌜ Ready (now stream) c used 1 × (line ≡ lineAt (now stream) (c .place)) ⌝ }
-    ensures { λ r. ⌜ Meets (now (stream .entry)) (c .place + 1) used 0 (now (nodes .entry)) (now (nodes .exit)) (says (now (stream .entry)) ranking g forstat c) r ⌝ }
+    ensures { λ r. ⌜ Meets (now (stream .entry)) (c .note) (c .place + 1) used 0 (now (nodes .entry)) (now (nodes .exit)) (says (now (stream .entry)) ranking g forstat c) r ⌝ }
 {
     let d = match stream::reader::expect_next(stream, c, FOR) {
         Next::Took(_, d) => d,
@@ -864,7 +868,7 @@ fn numeric(
     name: u64,
 ) -> Step
     requires { ⌜ Ready (now stream) c used 0 × (line ≡ lineAt (now stream) (c .place - 2)) × (name ≡ payload (now stream) (c .place - 1)) ⌝ }
-    ensures { λ r. ⌜ Meets (now (stream .entry)) (c .place + 1) used 0 (now (nodes .entry)) (now (nodes .exit)) (wrap (now (stream .entry)) 6 opening (c .place - 2) (says (now (stream .entry)) ranking g P.numeric c)) r ⌝ }
+    ensures { λ r. ⌜ Meets (now (stream .entry)) (c .note) (c .place + 1) used 0 (now (nodes .entry)) (now (nodes .exit)) (wrap (now (stream .entry)) 6 opening (c .place - 2) (says (now (stream .entry)) ranking g P.numeric c)) r ⌝ }
 {
     let d = match stream::reader::take_next(stream, c) {
         Next::Took(_, d) => d,
@@ -894,7 +898,7 @@ fn upto(
     g: usize,
 ) -> Step
     requires { ⌜ Ready (now stream) c used 1 ⌝ }
-    ensures { λ r. ⌜ Meets (now (stream .entry)) (c .place + 1) used 0 (now (nodes .entry)) (now (nodes .exit)) (says (now (stream .entry)) ranking g P.upto c) r ⌝ }
+    ensures { λ r. ⌜ Meets (now (stream .entry)) (c .note) (c .place + 1) used 0 (now (nodes .entry)) (now (nodes .exit)) (says (now (stream .entry)) ranking g P.upto c) r ⌝ }
 {
     match sub(stream, nodes, ranking, MIN_PRIORITY, c, used, g) {
         Step::Fail(e) => Step::Fail(e),
@@ -928,7 +932,7 @@ fn generic(
     first: u64,
 ) -> Step
     requires { ⌜ Ready (now stream) c (used + 2) 0 × (line ≡ lineAt (now stream) (c .place - 2)) × (first ≡ payload (now stream) (c .place - 1)) ⌝ }
-    ensures { λ r. ⌜ Meets (now (stream .entry)) (c .place + 1) used 0 (now (nodes .entry)) (now (nodes .exit)) (wrap (now (stream .entry)) 7 opening (c .place - 2) (says (now (stream .entry)) ranking g P.generic c)) r ⌝ }
+    ensures { λ r. ⌜ Meets (now (stream .entry)) (c .note) (c .place + 1) used 0 (now (nodes .entry)) (now (nodes .exit)) (wrap (now (stream .entry)) 7 opening (c .place - 2) (says (now (stream .entry)) ranking g P.generic c)) r ⌝ }
 {
     tree::put(nodes, used + 1, 30, first, 0, 1);
     match names(stream, nodes, c, used + 2) {
@@ -957,7 +961,7 @@ fn repeats(
     line: u64,
 ) -> Step
     requires { ⌜ Ready (now stream) c used 1 × (line ≡ lineAt (now stream) (c .place)) ⌝ }
-    ensures { λ r. ⌜ Meets (now (stream .entry)) (c .place + 1) used 0 (now (nodes .entry)) (now (nodes .exit)) (says (now (stream .entry)) ranking g repeatstat c) r ⌝ }
+    ensures { λ r. ⌜ Meets (now (stream .entry)) (c .note) (c .place + 1) used 0 (now (nodes .entry)) (now (nodes .exit)) (says (now (stream .entry)) ranking g repeatstat c) r ⌝ }
 {
     let d = match stream::reader::expect_next(stream, c, REPEAT) {
         Next::Took(_, d) => d,
@@ -988,7 +992,7 @@ fn func(
     line: u64,
 ) -> Step
     requires { ⌜ Ready (now stream) c used 1 × (line ≡ lineAt (now stream) (c .place)) ⌝ }
-    ensures { λ r. ⌜ Meets (now (stream .entry)) (c .place + 1) used 0 (now (nodes .entry)) (now (nodes .exit)) (says (now (stream .entry)) ranking g functionstat c) r ⌝ }
+    ensures { λ r. ⌜ Meets (now (stream .entry)) (c .note) (c .place + 1) used 0 (now (nodes .entry)) (now (nodes .exit)) (says (now (stream .entry)) ranking g functionstat c) r ⌝ }
 {
     let d = match stream::reader::expect_next(stream, c, FUNCTION) {
         Next::Took(_, d) => d,
@@ -1019,7 +1023,7 @@ fn lfunc(
     line: u64,
 ) -> Step
     requires { ⌜ Ready (now stream) c used 1 × (line ≡ lineAt (now stream) (c .place)) ⌝ }
-    ensures { λ r. ⌜ Meets (now (stream .entry)) (c .place + 1) used 0 (now (nodes .entry)) (now (nodes .exit)) (says (now (stream .entry)) ranking g localfunction c) r ⌝ }
+    ensures { λ r. ⌜ Meets (now (stream .entry)) (c .note) (c .place + 1) used 0 (now (nodes .entry)) (now (nodes .exit)) (says (now (stream .entry)) ranking g localfunction c) r ⌝ }
 {
     let d = match stream::reader::take_next(stream, c) {
         Next::Took(_, d) => d,
@@ -1053,7 +1057,7 @@ fn locs(
     line: u64,
 ) -> Step
     requires { ⌜ Ready (now stream) c used 1 × (line ≡ lineAt (now stream) (c .place)) ⌝ }
-    ensures { λ r. ⌜ Meets (now (stream .entry)) (c .place + 1) used 0 (now (nodes .entry)) (now (nodes .exit)) (says (now (stream .entry)) ranking g localstat c) r ⌝ }
+    ensures { λ r. ⌜ Meets (now (stream .entry)) (c .note) (c .place + 1) used 0 (now (nodes .entry)) (now (nodes .exit)) (says (now (stream .entry)) ranking g localstat c) r ⌝ }
 {
     let d = match stream::reader::expect_next(stream, c, LOCAL) {
         Next::Took(_, d) => d,
@@ -1127,7 +1131,7 @@ fn estat(
     line: u64,
 ) -> Step
     requires { ⌜ Ready (now stream) c used 1 × (line ≡ lineAt (now stream) (c .place)) ⌝ }
-    ensures { λ r. ⌜ Meets (now (stream .entry)) (c .place + 1) used 0 (now (nodes .entry)) (now (nodes .exit)) (says (now (stream .entry)) ranking g exprstat c) r ⌝ }
+    ensures { λ r. ⌜ Meets (now (stream .entry)) (c .note) (c .place + 1) used 0 (now (nodes .entry)) (now (nodes .exit)) (says (now (stream .entry)) ranking g exprstat c) r ⌝ }
 {
     match suffixed(stream, nodes, ranking, c, used + 1, g) {
         Sum::Fail(e) => Step::Fail(e),
@@ -1185,7 +1189,7 @@ fn assign(
     after: u64,
 ) -> Sum
     requires { ⌜ Ready (now stream) c used 0 × (after ≡ lineAt (now stream) (c .place)) ⌝ }
-    ensures { λ r. ⌜ Sums (now (stream .entry)) (c .place) (c .place + 1) used 0 (now (nodes .entry)) (now (nodes .exit)) (under (now (stream .entry)) ranking 0 g (c .place) P.assigned (c .place) (c .mark)) r ⌝ }
+    ensures { λ r. ⌜ Sums (now (stream .entry)) (c .note) (c .place) (c .place + 1) used 0 (now (nodes .entry)) (now (nodes .exit)) (under (now (stream .entry)) ranking 0 g (c .place) P.assigned (c .place) (c .mark)) r ⌝ }
 {
     match targs(stream, nodes, ranking, c, used, g, after) {
         Sum::Fail(e) => Sum::Fail(e),
@@ -1210,7 +1214,7 @@ fn targs(
     after: u64,
 ) -> Sum
     requires { ⌜ Ready (now stream) c used 0 ⌝ }
-    ensures { λ r. ⌜ ((e : ℕ) → after ≡ lineAt (now (stream .entry)) e → Sums (now (stream .entry)) (c .place) (c .place) used 0 (now (nodes .entry)) (now (nodes .exit)) (under (now (stream .entry)) ranking 0 g e P.targets (c .place) (c .mark)) r) ⌝ }
+    ensures { λ r. ⌜ ((e : ℕ) → after ≡ lineAt (now (stream .entry)) e → Sums (now (stream .entry)) (c .note) (c .place) (c .place) used 0 (now (nodes .entry)) (now (nodes .exit)) (under (now (stream .entry)) ranking 0 g e P.targets (c .place) (c .mark)) r) ⌝ }
 {
     let mut at = c;
     let mut u = used;
@@ -1256,7 +1260,7 @@ fn exps(
     g: usize,
 ) -> Sum
     requires { ⌜ Ready (now stream) c used 1 ⌝ }
-    ensures { λ r. ⌜ Sums (now (stream .entry)) (c .place) (c .place + 1) used 0 (now (nodes .entry)) (now (nodes .exit)) (says (now (stream .entry)) ranking g (explist 1) c) r ⌝ }
+    ensures { λ r. ⌜ Sums (now (stream .entry)) (c .note) (c .place) (c .place + 1) used 0 (now (nodes .entry)) (now (nodes .exit)) (says (now (stream .entry)) ranking g (explist 1) c) r ⌝ }
 {
     let mut n: u64 = 1;
     let mut u = used;
@@ -1306,17 +1310,42 @@ fn sub(
     g: usize,
 ) -> Step
     requires { ⌜ Ready (now stream) c used 1 ⌝ }
-    ensures { λ r. ⌜ Meets (now (stream .entry)) (c .place + 1) used 0 (now (nodes .entry)) (now (nodes .exit)) (readers (now (stream .entry)) (ranks ranking) g .exps limit (c .place) (c .mark)) r ⌝ }
+    ensures { λ r. ⌜ Meeting (counts (now (stream .entry)) limit) (now (stream .entry)) (c .note) (c .place + 1) used 0 (now (nodes .entry)) (now (nodes .exit)) (readers (now (stream .entry)) (ranks ranking) g .exps limit (c .place) (c .mark)) r ⌝ }
 {
     if g == 0 {
         return deep(stream, c);
     }
-    match head(stream, nodes, ranking, c, used + 1, g - 1) {
+    let b = begun(limit, c);
+    match head(stream, nodes, ranking, b, used + 1, g - 1) {
         Step::Fail(e) => Step::Fail(e),
         Step::Done(d, u) => match tails(stream, nodes, ranking, limit, d, u, g - 1) {
             Sum::Fail(e) => Step::Fail(e),
-            Sum::Done(e, v, n) => close(nodes, used, 17, n, 0, e, v),
+            Sum::Done(e, v, n) => {
+                let f = back(limit, c, e);
+                close(nodes, used, 17, n, 0, f, v)
+            }
         },
+    }
+}
+
+// An expression of its own has a chain of its own; an operand goes on with the chain that it stands in.
+fn begun(limit: u64, c: Cursor) -> Cursor
+    ensures { λ r. ⌜ r ≡ begins (eqb limit 0) c ⌝ }
+{
+    if limit == MIN_PRIORITY {
+        quarrel::fresh(c)
+    } else {
+        c
+    }
+}
+
+fn back(limit: u64, outer: Cursor, c: Cursor) -> Cursor
+    ensures { λ r. ⌜ r ≡ backs (eqb limit 0) outer c ⌝ }
+{
+    if limit == MIN_PRIORITY {
+        quarrel::resume(outer, c)
+    } else {
+        c
     }
 }
 
@@ -1330,7 +1359,7 @@ fn head(
     g: usize,
 ) -> Step
     requires { ⌜ Ready (now stream) c used 2 ⌝ }
-    ensures { λ r. ⌜ Meets (now (stream .entry)) (c .place + 1) used 0 (now (nodes .entry)) (now (nodes .exit)) (says (now (stream .entry)) ranking g head c) r ⌝ }
+    ensures { λ r. ⌜ Meets (now (stream .entry)) (c .note) (c .place + 1) used 0 (now (nodes .entry)) (now (nodes .exit)) (says (now (stream .entry)) ranking g head c) r ⌝ }
 {
     match stream::reader::get_next(stream, c) {
         Next::Fail(e) => Step::Fail(e),
@@ -1366,7 +1395,7 @@ fn tails(
     g: usize,
 ) -> Sum
     requires { ⌜ Ready (now stream) c used 0 ⌝ }
-    ensures { λ r. ⌜ Sums (now (stream .entry)) (c .place) (c .place) used 0 (now (nodes .entry)) (now (nodes .exit)) (under (now (stream .entry)) ranking limit g 0 tails (c .place) (c .mark)) r ⌝ }
+    ensures { λ r. ⌜ Sums (now (stream .entry)) (c .note) (c .place) (c .place) used 0 (now (nodes .entry)) (now (nodes .exit)) (under (now (stream .entry)) ranking limit g 0 tails (c .place) (c .mark)) r ⌝ }
 {
     let mut at = c;
     let mut u = used;
@@ -1412,15 +1441,18 @@ fn tail(
     used: usize,
     g: usize,
 ) -> Step
-    requires { ⌜ Ready (now stream) c used 0 × (limit ≡ ranks ranking .right (kindAt (now stream) (c .place))) × (op ≡ code (kindAt (now stream) (c .place))) ⌝ }
-    ensures { λ r. ⌜ Meets (now (stream .entry)) (c .place + 1) used 0 (now (nodes .entry)) (now (nodes .exit)) (says (now (stream .entry)) ranking g P.operation c) r ⌝ }
+    requires { ⌜ Ready (now stream) c used 0 × (limit ≡ ranks ranking .right (kindAt (now stream) (c .place))) × (op ≡ code (kindAt (now stream) (c .place))) × (eqb limit 0 ≡ false) ⌝ }
+    ensures { λ r. ⌜ Meets (now (stream .entry)) (c .note) (c .place + 1) used 0 (now (nodes .entry)) (now (nodes .exit)) (says (now (stream .entry)) ranking g P.operation c) r ⌝ }
 {
     match stream::reader::take_next(stream, c) {
         Next::Fail(e) => Step::Fail(e),
-        Next::Took(_, d) => match sub(stream, nodes, ranking, limit, d, used + 1, g) {
-            Step::Fail(e) => Step::Fail(e),
-            Step::Done(e, u) => close(nodes, used, 19, op, 0, e, u),
-        },
+        Next::Took(t, d) => {
+            let h = quarrel::hear(d, t.kind, c.place);
+            match sub(stream, nodes, ranking, limit, h, used + 1, g) {
+                Step::Fail(e) => Step::Fail(e),
+                Step::Done(e, u) => close(nodes, used, 19, op, 0, e, u),
+            }
+        }
     }
 }
 
@@ -1434,7 +1466,7 @@ fn simple(
     g: usize,
 ) -> Step
     requires { ⌜ Ready (now stream) c used 2 ⌝ }
-    ensures { λ r. ⌜ Meets (now (stream .entry)) (c .place + 1) used 0 (now (nodes .entry)) (now (nodes .exit)) (says (now (stream .entry)) ranking g simple c) r ⌝ }
+    ensures { λ r. ⌜ Meets (now (stream .entry)) (c .note) (c .place + 1) used 0 (now (nodes .entry)) (now (nodes .exit)) (says (now (stream .entry)) ranking g simple c) r ⌝ }
 {
     match stream::reader::get_next(stream, c) {
         Next::Fail(e) => Step::Fail(e),
@@ -1474,7 +1506,7 @@ fn suffixed(
     g: usize,
 ) -> Sum
     requires { ⌜ Ready (now stream) c used 2 ⌝ }
-    ensures { λ r. ⌜ Ends (now (stream .entry)) (c .place + 1) used 0 (now (nodes .entry)) (now (nodes .exit)) (says (now (stream .entry)) ranking g suffixed c) kids r ⌝ }
+    ensures { λ r. ⌜ Ends (now (stream .entry)) (c .note) (c .place + 1) used 0 (now (nodes .entry)) (now (nodes .exit)) (says (now (stream .entry)) ranking g suffixed c) kids r ⌝ }
 {
     let mut n: u64 = 0;
     let mut u = used;
@@ -1541,7 +1573,7 @@ fn suffix(
     kind: u64,
 ) -> Part
     requires { ⌜ Ready (now stream) c used 0 × (kind ≡ kindAt (now stream) (c .place)) ⌝ }
-    ensures { λ r. ⌜ Suffixes (now (stream .entry)) (c .place + 1) used 0 (now (nodes .entry)) (now (nodes .exit)) (says (now (stream .entry)) ranking g suffix c) kind r ⌝ }
+    ensures { λ r. ⌜ Suffixes (now (stream .entry)) (c .note) (c .place + 1) used 0 (now (nodes .entry)) (now (nodes .exit)) (says (now (stream .entry)) ranking g suffix c) kind r ⌝ }
 {
     match kind {
         DOT => tagged(field_name(stream, nodes, c, used), 32),
@@ -1557,7 +1589,7 @@ fn suffix(
 // parse_field_suffix: '.' Name
 fn field_name(stream: &[u64], nodes: &mut [u64], c: Cursor, used: usize) -> Step
     requires { ⌜ Ready (now stream) c used 0 ⌝ }
-    ensures { λ r. ⌜ ((k : Ranking) (h : ℕ) → Meets (now (stream .entry)) (c .place + 1) used 0 (now (nodes .entry)) (now (nodes .exit)) (says (now (stream .entry)) k h P.dotted c) r) ⌝ }
+    ensures { λ r. ⌜ ((k : Ranking) (h : ℕ) → Meets (now (stream .entry)) (c .note) (c .place + 1) used 0 (now (nodes .entry)) (now (nodes .exit)) (says (now (stream .entry)) k h P.dotted c) r) ⌝ }
 {
     let d = match stream::reader::take_next(stream, c) {
         Next::Took(_, d) => d,
@@ -1581,7 +1613,7 @@ fn index(
     g: usize,
 ) -> Step
     requires { ⌜ Ready (now stream) c used 0 ⌝ }
-    ensures { λ r. ⌜ Meets (now (stream .entry)) (c .place + 1) used 0 (now (nodes .entry)) (now (nodes .exit)) (says (now (stream .entry)) ranking g P.index c) r ⌝ }
+    ensures { λ r. ⌜ Meets (now (stream .entry)) (c .note) (c .place + 1) used 0 (now (nodes .entry)) (now (nodes .exit)) (says (now (stream .entry)) ranking g P.index c) r ⌝ }
 {
     let d = match stream::reader::take_next(stream, c) {
         Next::Took(_, d) => d,
@@ -1608,7 +1640,7 @@ fn method(
     g: usize,
 ) -> Step
     requires { ⌜ Ready (now stream) c used 0 ⌝ }
-    ensures { λ r. ⌜ Meets (now (stream .entry)) (c .place + 1) used 0 (now (nodes .entry)) (now (nodes .exit)) (says (now (stream .entry)) ranking g P.method c) r ⌝ }
+    ensures { λ r. ⌜ Meets (now (stream .entry)) (c .note) (c .place + 1) used 0 (now (nodes .entry)) (now (nodes .exit)) (says (now (stream .entry)) ranking g P.method c) r ⌝ }
 {
     let d = match stream::reader::take_next(stream, c) {
         Next::Took(_, d) => d,
@@ -1635,7 +1667,7 @@ fn call(
     g: usize,
 ) -> Step
     requires { ⌜ Ready (now stream) c used 0 ⌝ }
-    ensures { λ r. ⌜ Meets (now (stream .entry)) (c .place + 1) used 0 (now (nodes .entry)) (now (nodes .exit)) (says (now (stream .entry)) ranking g P.call c) r ⌝ }
+    ensures { λ r. ⌜ Meets (now (stream .entry)) (c .note) (c .place + 1) used 0 (now (nodes .entry)) (now (nodes .exit)) (says (now (stream .entry)) ranking g P.call c) r ⌝ }
 {
     match args(stream, nodes, ranking, c, used + 1, g) {
         Sum::Fail(e) => Step::Fail(e),
@@ -1653,7 +1685,7 @@ fn args(
     g: usize,
 ) -> Sum
     requires { ⌜ Ready (now stream) c used 1 ⌝ }
-    ensures { λ r. ⌜ Sums (now (stream .entry)) (c .place) (c .place + 1) used 0 (now (nodes .entry)) (now (nodes .exit)) (says (now (stream .entry)) ranking g (args 1) c) r ⌝ }
+    ensures { λ r. ⌜ Sums (now (stream .entry)) (c .note) (c .place) (c .place + 1) used 0 (now (nodes .entry)) (now (nodes .exit)) (says (now (stream .entry)) ranking g (args 1) c) r ⌝ }
 {
     match stream::reader::get_next(stream, c) {
         Next::Fail(e) => Sum::Fail(e),
@@ -1691,7 +1723,7 @@ fn list(
     g: usize,
 ) -> Sum
     requires { ⌜ Ready (now stream) c used 1 ⌝ }
-    ensures { λ r. ⌜ Sums (now (stream .entry)) (c .place) (c .place + 1) used 0 (now (nodes .entry)) (now (nodes .exit)) (says (now (stream .entry)) ranking g P.list c) r ⌝ }
+    ensures { λ r. ⌜ Sums (now (stream .entry)) (c .note) (c .place) (c .place + 1) used 0 (now (nodes .entry)) (now (nodes .exit)) (says (now (stream .entry)) ranking g P.list c) r ⌝ }
 {
     let d = match stream::reader::take_next(stream, c) {
         Next::Took(_, d) => d,
@@ -1723,7 +1755,7 @@ fn primary(
     g: usize,
 ) -> Sum
     requires { ⌜ Ready (now stream) c used 3 ⌝ }
-    ensures { λ r. ⌜ Ends (now (stream .entry)) (c .place + 1) used 0 (now (nodes .entry)) (now (nodes .exit)) (says (now (stream .entry)) ranking g primary c) itself r ⌝ }
+    ensures { λ r. ⌜ Ends (now (stream .entry)) (c .note) (c .place + 1) used 0 (now (nodes .entry)) (now (nodes .exit)) (says (now (stream .entry)) ranking g primary c) itself r ⌝ }
 {
     let place = c.place;
     match stream::reader::take_next(stream, c) {
@@ -1763,7 +1795,7 @@ fn def(
     g: usize,
 ) -> Step
     requires { ⌜ Ready (now stream) c used 0 ⌝ }
-    ensures { λ r. ⌜ Meets (now (stream .entry)) (c .place + 1) used 0 (now (nodes .entry)) (now (nodes .exit)) (says (now (stream .entry)) ranking g funcbody c) r ⌝ }
+    ensures { λ r. ⌜ Meets (now (stream .entry)) (c .note) (c .place + 1) used 0 (now (nodes .entry)) (now (nodes .exit)) (says (now (stream .entry)) ranking g funcbody c) r ⌝ }
 {
     let d = match stream::reader::expect_next(stream, c, LEFT_PAREN) {
         Next::Took(_, d) => d,
@@ -1793,7 +1825,7 @@ fn table(
     g: usize,
 ) -> Step
     requires { ⌜ Ready (now stream) c used 2 ⌝ }
-    ensures { λ r. ⌜ Meets (now (stream .entry)) (c .place + 1) used 0 (now (nodes .entry)) (now (nodes .exit)) (says (now (stream .entry)) ranking g table c) r ⌝ }
+    ensures { λ r. ⌜ Meets (now (stream .entry)) (c .note) (c .place + 1) used 0 (now (nodes .entry)) (now (nodes .exit)) (says (now (stream .entry)) ranking g table c) r ⌝ }
 {
     let d = match stream::reader::expect_next(stream, c, LEFT_BRACE) {
         Next::Took(_, d) => d,
@@ -1817,7 +1849,7 @@ fn fields(
     g: usize,
 ) -> Sum
     requires { ⌜ Ready (now stream) c used 0 ⌝ }
-    ensures { λ r. ⌜ Sums (now (stream .entry)) (c .place) (c .place + 1) used 0 (now (nodes .entry)) (now (nodes .exit)) (says (now (stream .entry)) ranking g P.fields c) r ⌝ }
+    ensures { λ r. ⌜ Sums (now (stream .entry)) (c .note) (c .place) (c .place + 1) used 0 (now (nodes .entry)) (now (nodes .exit)) (says (now (stream .entry)) ranking g P.fields c) r ⌝ }
 {
     let mut at = c;
     let mut u = used;
@@ -1872,7 +1904,7 @@ fn field(
     g: usize,
 ) -> Step
     requires { ⌜ Ready (now stream) c used 0 ⌝ }
-    ensures { λ r. ⌜ Meets (now (stream .entry)) (c .place + 1) used 0 (now (nodes .entry)) (now (nodes .exit)) (says (now (stream .entry)) ranking g field c) r ⌝ }
+    ensures { λ r. ⌜ Meets (now (stream .entry)) (c .note) (c .place + 1) used 0 (now (nodes .entry)) (now (nodes .exit)) (says (now (stream .entry)) ranking g field c) r ⌝ }
 {
     match stream::reader::get_next(stream, c) {
         Next::Fail(e) => Step::Fail(e),
@@ -1906,7 +1938,7 @@ fn item(
     g: usize,
 ) -> Step
     requires { ⌜ Ready (now stream) c used 0 ⌝ }
-    ensures { λ r. ⌜ Meets (now (stream .entry)) (c .place + 1) used 0 (now (nodes .entry)) (now (nodes .exit)) (says (now (stream .entry)) ranking g P.item c) r ⌝ }
+    ensures { λ r. ⌜ Meets (now (stream .entry)) (c .note) (c .place + 1) used 0 (now (nodes .entry)) (now (nodes .exit)) (says (now (stream .entry)) ranking g P.item c) r ⌝ }
 {
     match sub(stream, nodes, ranking, MIN_PRIORITY, c, used + 1, g) {
         Step::Fail(e) => Step::Fail(e),
@@ -1924,7 +1956,7 @@ fn named(
     g: usize,
 ) -> Step
     requires { ⌜ Ready (now stream) c used 0 ⌝ }
-    ensures { λ r. ⌜ Meets (now (stream .entry)) (c .place + 1) used 0 (now (nodes .entry)) (now (nodes .exit)) (says (now (stream .entry)) ranking g P.fielded c) r ⌝ }
+    ensures { λ r. ⌜ Meets (now (stream .entry)) (c .note) (c .place + 1) used 0 (now (nodes .entry)) (now (nodes .exit)) (says (now (stream .entry)) ranking g P.fielded c) r ⌝ }
 {
     match stream::reader::expect_name(stream, c) {
         Next::Fail(e) => Step::Fail(e),
@@ -1948,7 +1980,7 @@ fn keyed(
     g: usize,
 ) -> Step
     requires { ⌜ Ready (now stream) c used 0 ⌝ }
-    ensures { λ r. ⌜ Meets (now (stream .entry)) (c .place + 1) used 0 (now (nodes .entry)) (now (nodes .exit)) (says (now (stream .entry)) ranking g P.keyed c) r ⌝ }
+    ensures { λ r. ⌜ Meets (now (stream .entry)) (c .note) (c .place + 1) used 0 (now (nodes .entry)) (now (nodes .exit)) (says (now (stream .entry)) ranking g P.keyed c) r ⌝ }
 {
     let d = match stream::reader::take_next(stream, c) {
         Next::Took(_, d) => d,
@@ -1973,25 +2005,44 @@ fn keyed(
 
 // ---- the whole stream
 
-fn cleared(nodes: &mut [u64], e: Refusal) -> Answer
-    ensures { λ r. ⌜ (r ≡ refusing e) × (now (nodes .exit) ≡ replicate (length (now (nodes .entry))) 0) ⌝ }
+// An answer, and the token of the first `~=` that quarrels: none, where there is none or the stream is refused.
+pub struct Findings {
+    pub answer: Answer,
+    pub first: usize,
+}
+
+fn cleared(nodes: &mut [u64], e: Refusal) -> Findings
+    ensures { λ r. ⌜ (r ≡ record { answer = refusing e; first = NONE }) × (now (nodes .exit) ≡ replicate (length (now (nodes .entry))) 0) ⌝ }
 {
     tree::clear(nodes);
-    Answer {
-        number: e.number,
-        line: e.line,
-        found: e.found,
-        expected: e.expected,
-        count: 0,
+    Findings {
+        answer: Answer {
+            number: e.number,
+            line: e.line,
+            found: e.found,
+            expected: e.expected,
+            count: 0,
+        },
+        first: quarrel::NONE,
     }
 }
 
 // parse_chunk: block, and nothing left over
 fn chunk(stream: &[u64], nodes: &mut [u64], ranking: Ranking) -> Step
     requires { ⌜ Formed (now stream) ⌝ }
-    ensures { λ r. ⌜ Meets (now (stream .entry)) 0 0 1 (now (nodes .entry)) (now (nodes .exit)) (chunk (now (stream .entry)) (ranks ranking) 199) r ⌝ }
+    ensures { λ r. ⌜ Meets (now (stream .entry)) (note false NONE NONE) 0 0 1 (now (nodes .entry)) (now (nodes .exit)) (chunk (now (stream .entry)) (ranks ranking) 199) r ⌝ }
 {
-    match block(stream, nodes, ranking, Cursor { place: 0, mark: 0 }, 0, 199) {
+    let note = Note {
+        heard: false,
+        waits: quarrel::NONE,
+        found: quarrel::NONE,
+    };
+    let c = Cursor {
+        place: 0,
+        mark: 0,
+        note,
+    };
+    match block(stream, nodes, ranking, c, 0, 199) {
         Step::Fail(e) => Step::Fail(e),
         Step::Done(c, u) => match stream::reader::look_ahead(stream, c, 0) {
             Look::End(d) => Step::Done(d, u),
@@ -2005,8 +2056,8 @@ fn chunk(stream: &[u64], nodes: &mut [u64], ranking: Ranking) -> Step
     }
 }
 
-fn read(stream: &[u64], nodes: &mut [u64], ranking: Ranking) -> Answer
-    ensures { λ r. ⌜ Answered (now (stream .entry)) ranking (now (nodes .entry)) (now (nodes .exit)) r ⌝ }
+pub fn reading(stream: &[u64], nodes: &mut [u64], ranking: Ranking) -> Findings
+    ensures { λ r. ⌜ Answered (now (stream .entry)) ranking (now (nodes .entry)) (now (nodes .exit)) (r .answer) × Noted (now (stream .entry)) ranking (r .first) ⌝ }
 {
     match stream::form::judge(stream) {
         Form::Bad(found) => cleared(
@@ -2020,19 +2071,23 @@ fn read(stream: &[u64], nodes: &mut [u64], ranking: Ranking) -> Answer
         ),
         Form::Well => match chunk(stream, nodes, ranking) {
             Step::Fail(e) => cleared(nodes, e),
-            Step::Done(_, u) => {
+            Step::Done(d, u) => {
+                let note = d.note;
                 let count = u * 4;
                 let mut number: u64 = 0;
                 if nodes.len() < count {
                     tree::clear(nodes);
                     number = 7;
                 }
-                Answer {
-                    number,
-                    line: 0,
-                    found: 0,
-                    expected: 0,
-                    count,
+                Findings {
+                    answer: Answer {
+                        number,
+                        line: 0,
+                        found: 0,
+                        expected: 0,
+                        count,
+                    },
+                    first: note.found,
                 }
             }
         },
@@ -2042,11 +2097,13 @@ fn read(stream: &[u64], nodes: &mut [u64], ranking: Ranking) -> Answer
 pub fn crate_reading(stream: &[u64], nodes: &mut [u64]) -> Answer
     ensures { λ r. ⌜ Answered (now (stream .entry)) Ranking.Crate (now (nodes .entry)) (now (nodes .exit)) r ⌝ }
 {
-    read(stream, nodes, Ranking::Crate)
+    let r = reading(stream, nodes, Ranking::Crate);
+    r.answer
 }
 
 pub fn manual_reading(stream: &[u64], nodes: &mut [u64]) -> Answer
     ensures { λ r. ⌜ Answered (now (stream .entry)) Ranking.Manual (now (nodes .entry)) (now (nodes .exit)) r ⌝ }
 {
-    read(stream, nodes, Ranking::Manual)
+    let r = reading(stream, nodes, Ranking::Manual);
+    r.answer
 }

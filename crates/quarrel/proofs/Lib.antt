@@ -3,9 +3,12 @@ pub mod Classes
 pub mod Words
 pub mod Machine
 pub mod Noted
+pub mod Notes
 pub mod Fit
 pub mod Agree
 pub mod Parts
+pub mod Plain
 pub mod Marks
 pub mod Carry
 pub mod Trees
+pub mod Hearing

@@ -14,7 +14,7 @@ use Rattle.quarrel.specs.Rule.{cuts, firsts, seconds, halts, None, nothi
 use Rattle.quarrel.proofs.Classes.{Product, Named, look, table, class, Role, cut, compare, unequal, bits, sum, rest, role, hear, heard, next, second, quarrel, clear, part, kinds, beq-at, and-at}
 
 -- which roles the four lists name
-abbrev cutting : Role → Bool
+abbrev pub cutting : Role → Bool
 cutting cut = true
 cutting compare = false
 cutting unequal = false
@@ -22,7 +22,7 @@ cutting bits = false
 cutting sum = false
 cutting rest = false
 
-abbrev leading : Role → Bool
+abbrev pub leading : Role → Bool
 leading cut = false
 leading compare = true
 leading unequal = false
@@ -30,7 +30,7 @@ leading bits = true
 leading sum = false
 leading rest = false
 
-abbrev following : Role → Bool
+abbrev pub following : Role → Bool
 following cut = false
 following compare = false
 following unequal = false
@@ -46,7 +46,7 @@ halting bits = false
 halting sum = false
 halting rest = false
 
-abbrev differing : Role → Bool
+abbrev pub differing : Role → Bool
 differing cut = false
 differing compare = false
 differing unequal = true
@@ -107,15 +107,15 @@ words f ks h s r k = go (ltb k 60) refl
     go true e = beq-at _ _ (below-at (told f ks) 60 h k (ltb-true k 60 e))
     go false e = let l = ltb-false k 60 e in rw (member-high k l ks s, look-high k l table refl) (sym r)
 
-cut-words : (k : ℕ) → member k cuts ≡ cutting (role (class k))
+pub cut-words : (k : ℕ) → member k cuts ≡ cutting (role (class k))
 unfolding told below small look
 cut-words = words cutting cuts refl refl refl
 
-first-words : (k : ℕ) → member k firsts ≡ leading (role (class k))
+pub first-words : (k : ℕ) → member k firsts ≡ leading (role (class k))
 unfolding told below small look
 first-words = words leading firsts refl refl refl
 
-second-words : (k : ℕ) → member k seconds ≡ following (role (class k))
+pub second-words : (k : ℕ) → member k seconds ≡ following (role (class k))
 unfolding told below small look
 second-words = words following seconds refl refl refl
 
@@ -123,7 +123,7 @@ halt-words : (k : ℕ) → member k halts ≡ halting (role (class k))
 unfolding told below small look
 halt-words = words halting halts refl refl refl
 
-unequal-words : (k : ℕ) → member k (NotEqual ∷ []) ≡ differing (role (class k))
+pub unequal-words : (k : ℕ) → member k (NotEqual ∷ []) ≡ differing (role (class k))
 unfolding told below small look
 unequal-words = words differing (NotEqual ∷ []) refl refl refl
 

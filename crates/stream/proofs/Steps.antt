@@ -13,9 +13,9 @@ use Rattle.stream.specs.declared.reader.Next.{Next}
 use Rattle.stream.specs.declared.reader.Next.the-variants.{Took, Fail}
 use Rattle.stream.proofs.Words.{inside}
 
--- a cursor is its place and its mark
-pub reaches : (s : List ℕ) (c : Cursor) {d : Cursor} (n : ℕ) {many : ℕ} → many ≡ n + 1 → (d .place ≡ c .place) × (d .mark ≡ reached s (c .mark) (c .place) many) → d ≡ readAhead s c n
-reaches s c n m e = λ i. record { place = e .0 i; mark = (rw m at (e .1)) i }
+-- a cursor is its place, its mark and what was noted
+pub reaches : (s : List ℕ) (c : Cursor) {d : Cursor} (n : ℕ) {many : ℕ} → many ≡ n + 1 → (d .place ≡ c .place) × (d .mark ≡ reached s (c .mark) (c .place) many) × (d .note ≡ c .note) → d ≡ readAhead s c n
+reaches s c n m e = λ i. record { place = e .0 i; mark = (rw m at (e .1)) i; note = e .2 i }
 
 -- at the end: what is said of it is told
 pub fails : (s : List ℕ) (c : Cursor) {d : Cursor} {e : Refusal} {x : ℕ} {r : Next}

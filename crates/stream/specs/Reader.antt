@@ -23,7 +23,7 @@ reached s m p n = max m (min (p + n) (records s))
 
 -- read_ahead(n) holds n + 1 tokens
 abbrev pub readAhead : List ℕ → Cursor → ℕ → Cursor
-readAhead s c n = record { place = c .place; mark = reached s (c .mark) (c .place) (n + 1) }
+readAhead s c n = record { place = c .place; mark = reached s (c .mark) (c .place) (n + 1); note = c .note }
 
 -- the reading line: the after-line of the last token under the mark, or the end line once the mark has passed it
 abbrev pub told : List ℕ → ℕ → ℕ
@@ -42,7 +42,7 @@ abbrev pub expecting : ℕ → ℕ
 expecting k = (k + 1) % 2 ^ 64
 
 abbrev pub passed : Cursor → Cursor
-passed c = record { place = c .place + 1; mark = c .mark }
+passed c = record { place = c .place + 1; mark = c .mark; note = c .note }
 
 -- the end of the stream, or else
 abbrev pub atEnd {ℓ} : {A : Type ℓ} → List ℕ → ℕ → A → A → A

@@ -6,10 +6,18 @@ ghost use Prim.Native.Nat.{_+_, _<_, max};
 ghost use Rattle.stream.specs.Words.{kind};
 ghost use Rattle.stream.specs.Reader.{tokenAt, reached, readAhead, told, ended, unexpected, expecting, passed, atEnd, getNext, takeNext, expectNext, expectName, lookAhead, checkAhead};
 
-// Where the reading is: the next token, and how far the tokens were asked for.
+// What a user of the cursor notes on the way: the reader's functions hand it on and never look at it.
+pub struct Note {
+    pub heard: bool,
+    pub waits: usize,
+    pub found: usize,
+}
+
+// Where the reading is: the next token, how far the tokens were asked for, and what was noted by then.
 pub struct Cursor {
     pub place: usize,
     pub mark: usize,
+    pub note: Note,
 }
 
 pub struct Token {
@@ -77,29 +85,33 @@ fn token_after(stream: &[u64], place: usize, n: u8) -> Token
 // The cursor, once so many tokens were asked for: the mark goes as far as there are records.
 fn reach(stream: &[u64], c: Cursor, many: usize) -> Cursor
     requires { ⌜ many < 4096 ⌝ }
-    ensures { λ r. ⌜ (r .place ≡ c .place) × (r .mark ≡ reached (now (stream .entry)) (c .mark) (c .place) many) ⌝ }
+    ensures { λ r. ⌜ (r .place ≡ c .place) × (r .mark ≡ reached (now (stream .entry)) (c .mark) (c .place) many) × (r .note ≡ c .note) ⌝ }
 {
     let place = c.place;
-    let mark = c.mark;
     let records = stream.len() / 4;
     if records <= place {
-        return further(place, mark, records);
+        return further(c, records);
     }
     let far = place + many;
     if records <= far {
-        further(place, mark, records)
+        further(c, records)
     } else {
-        further(place, mark, far)
+        further(c, far)
     }
 }
 
-fn further(place: usize, mark: usize, to: usize) -> Cursor
-    ensures { λ r. ⌜ (r .place ≡ place) × (r .mark ≡ max mark to) ⌝ }
+fn further(c: Cursor, to: usize) -> Cursor
+    ensures { λ r. ⌜ (r .place ≡ c .place) × (r .mark ≡ max (c .mark) to) × (r .note ≡ c .note) ⌝ }
 {
-    if mark < to {
-        Cursor { place, mark: to }
+    let note = c.note;
+    if c.mark < to {
+        Cursor {
+            place: c.place,
+            mark: to,
+            note,
+        }
     } else {
-        Cursor { place, mark }
+        c
     }
 }
 
@@ -159,11 +171,13 @@ pub fn take_next(stream: &[u64], c: Cursor) -> Next
     if t.kind == END_OF_STREAM {
         return Next::Fail(end_of_stream(stream, d, 0));
     }
+    let note = d.note;
     Next::Took(
         t,
         Cursor {
             place: d.place + 1,
             mark: d.mark,
+            note,
         },
     )
 }
@@ -179,11 +193,13 @@ pub fn expect_next(stream: &[u64], c: Cursor, kind: u64) -> Next
         return Next::Fail(end_of_stream(stream, d, expected));
     }
     if t.kind == kind {
+        let note = d.note;
         Next::Took(
             t,
             Cursor {
                 place: d.place + 1,
                 mark: d.mark,
+                note,
             },
         )
     } else {
@@ -206,11 +222,13 @@ pub fn expect_name(stream: &[u64], c: Cursor) -> Next
         return Next::Fail(end_of_stream(stream, d, 60));
     }
     if t.kind == NAME {
+        let note = d.note;
         Next::Took(
             t,
             Cursor {
                 place: d.place + 1,
                 mark: d.mark,
+                note,
             },
         )
     } else {

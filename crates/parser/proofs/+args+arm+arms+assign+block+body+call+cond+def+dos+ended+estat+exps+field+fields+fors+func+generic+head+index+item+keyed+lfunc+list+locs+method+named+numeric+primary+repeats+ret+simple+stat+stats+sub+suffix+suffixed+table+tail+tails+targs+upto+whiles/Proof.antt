@@ -177,6 +177,8 @@ use Rattle.parser.proofs.+args+arm+arms+assign+block+body+call+cond+def
 use Rattle.operators.proofs.binary_priority.Reads as binary-priority-reads
 use Rattle.operators.proofs.get_binary_operator.Reads as get-binary-operator-reads
 use Rattle.operators.proofs.get_unary_operator.Reads as get-unary-operator-reads
+use Rattle.parser.proofs.back.Reads as back-reads
+use Rattle.parser.proofs.begun.Reads as begun-reads
 use Rattle.parser.proofs.calling.Reads as calling-reads
 use Rattle.parser.proofs.close.Reads as close-reads
 use Rattle.parser.proofs.close_block.Reads as close-block-reads
@@ -199,6 +201,7 @@ use Rattle.parser.proofs.parlist.Reads as parlist-reads
 use Rattle.parser.proofs.refuse.Reads as refuse-reads
 use Rattle.parser.proofs.stop.Reads as stop-reads
 use Rattle.parser.proofs.tagged.Reads as tagged-reads
+use Rattle.quarrel.proofs.hear.Reads as hear-reads
 use Rattle.stream.proofs.reader.check_ahead.Reads as check-ahead-reads
 use Rattle.stream.proofs.reader.expect_name.Reads as expect-name-reads
 use Rattle.stream.proofs.reader.expect_next.Reads as expect-next-reads
@@ -243,11 +246,11 @@ use Rattle.parser.proofs.+args+arm+arms+assign+block+body+call+cond+def
 use Rattle.parser.proofs.+args+arm+arms+assign+block+body+call+cond+def+dos+ended+estat+exps+field+fields+fors+func+generic+head+index+item+keyed+lfunc+list+locs+method+named+numeric+primary+repeats+ret+simple+stat+stats+sub+suffix+suffixed+table+tail+tails+targs+upto+whiles.Proof.Of-simple.{simple-get-next-requires, simple-enum-known-e, simple-enum-known-t, simple-leaf-requires, simple-leaf-requires-2, simple-leaf-requires-3, simple-leaf-requires-4, simple-leaf-requires-5, simple-leaf-requires-6, simple-leaf-requires-7, simple-table-requires, simple-take-next-requires, simple-enum-known-e-2, simple-enum-known-e-3, simple-def-requires, simple-suffixed-requires, simple-enum-known-e-4, simple-enum-known-e-5, simple-returns, simple-same-length, simple-returns-2, simple-same-length-2, simple-returns-3, simple-same-length-3, simple-returns-4, simple-same-length-4, simple-returns-5, simple-same-length-5, simple-returns-6, simple-same-length-6, simple-returns-7, simple-same-length-7, simple-returns-8, simple-same-length-8, simple-returns-9, simple-returns-10, simple-same-length-9, simple-returns-11, simple-same-length-10, simple-returns-12, simple-same-length-11, simple-returns-13}
 use Rattle.parser.proofs.+args+arm+arms+assign+block+body+call+cond+def+dos+ended+estat+exps+field+fields+fors+func+generic+head+index+item+keyed+lfunc+list+locs+method+named+numeric+primary+repeats+ret+simple+stat+stats+sub+suffix+suffixed+table+tail+tails+targs+upto+whiles.Proof.Of-stat.{stat-deep-requires, stat-returns, stat-get-next-requires, stat-enum-known-e, stat-enum-known-t, stat-sub-cond, stat-cond-requires, stat-sub-whiles, stat-whiles-requires, stat-sub-dos, stat-dos-requires, stat-sub-fors, stat-fors-requires, stat-sub-repeats, stat-repeats-requires, stat-sub-func, stat-func-requires, stat-check-ahead-requires, stat-sub-lfunc, stat-lfunc-requires, stat-sub-locs, stat-locs-requires, stat-label-requires, stat-stop-requires, stat-goto-requires, stat-sub-estat, stat-estat-requires, stat-returns-2, stat-same-length, stat-returns-3, stat-same-length-2, stat-returns-4, stat-same-length-3, stat-returns-5, stat-same-length-4, stat-returns-6, stat-same-length-5, stat-returns-7, stat-same-length-6, stat-returns-8, stat-same-length-7, stat-returns-9, stat-same-length-8, stat-returns-10, stat-same-length-9, stat-returns-11, stat-same-length-10, stat-returns-12, stat-same-length-11, stat-returns-13, stat-same-length-12, stat-returns-14}
 use Rattle.parser.proofs.+args+arm+arms+assign+block+body+call+cond+def+dos+ended+estat+exps+field+fields+fors+func+generic+head+index+item+keyed+lfunc+list+locs+method+named+numeric+primary+repeats+ret+simple+stat+stats+sub+suffix+suffixed+table+tail+tails+targs+upto+whiles.Proof.Of-stats.{stats-Inv-loop, stats-μ-loop, stats-loop-holds, stats-look-ahead-requires, stats-enum-known-d, stats-same-length, stats-returns, stats-enum-known-t, stats-same-length-2, stats-returns-2, stats-same-length-3, stats-returns-3, stats-same-length-4, stats-returns-4, stats-same-length-5, stats-returns-5, stats-same-length-6, stats-returns-6, stats-take-next-requires, stats-enum-known-e, stats-same-length-7, stats-returns-7, stats-enum-known-e-2, stats-loop-less, stats-loop-again, stats-stat-requires, stats-enum-known-e-3, stats-same-length-8, stats-returns-8, stats-enum-known-e-4, stats-loop-less-2, stats-loop-again-2}
-use Rattle.parser.proofs.+args+arm+arms+assign+block+body+call+cond+def+dos+ended+estat+exps+field+fields+fors+func+generic+head+index+item+keyed+lfunc+list+locs+method+named+numeric+primary+repeats+ret+simple+stat+stats+sub+suffix+suffixed+table+tail+tails+targs+upto+whiles.Proof.Of-sub.{sub-deep-requires, sub-returns, sub-add-head, sub-sub-head, sub-head-requires, sub-enum-known-e, sub-enum-known-d, sub-sub-tails, sub-tails-requires, sub-enum-known-e-2, sub-enum-known-e-3, sub-close-requires, sub-same-length, sub-returns-2, sub-same-length-2, sub-returns-3, sub-same-length-3, sub-returns-4}
+use Rattle.parser.proofs.+args+arm+arms+assign+block+body+call+cond+def+dos+ended+estat+exps+field+fields+fors+func+generic+head+index+item+keyed+lfunc+list+locs+method+named+numeric+primary+repeats+ret+simple+stat+stats+sub+suffix+suffixed+table+tail+tails+targs+upto+whiles.Proof.Of-sub.{sub-deep-requires, sub-returns, sub-begun-requires, sub-add-head, sub-sub-head, sub-head-requires, sub-enum-known-e, sub-enum-known-d, sub-sub-tails, sub-tails-requires, sub-enum-known-e-2, sub-enum-known-e-3, sub-back-requires, sub-close-requires, sub-same-length, sub-returns-2, sub-same-length-2, sub-returns-3, sub-same-length-3, sub-returns-4}
 use Rattle.parser.proofs.+args+arm+arms+assign+block+body+call+cond+def+dos+ended+estat+exps+field+fields+fors+func+generic+head+index+item+keyed+lfunc+list+locs+method+named+numeric+primary+repeats+ret+simple+stat+stats+sub+suffix+suffixed+table+tail+tails+targs+upto+whiles.Proof.Of-suffix.{suffix-field-name-requires, suffix-tagged-requires, suffix-index-requires, suffix-tagged-requires-2, suffix-method-requires, suffix-tagged-requires-3, suffix-call-requires, suffix-tagged-requires-4, suffix-call-requires-2, suffix-tagged-requires-5, suffix-call-requires-3, suffix-tagged-requires-6, suffix-same-length, suffix-returns, suffix-same-length-2, suffix-returns-2, suffix-same-length-3, suffix-returns-3, suffix-same-length-4, suffix-returns-4, suffix-same-length-5, suffix-returns-5, suffix-same-length-6, suffix-returns-6, suffix-returns-7}
 use Rattle.parser.proofs.+args+arm+arms+assign+block+body+call+cond+def+dos+ended+estat+exps+field+fields+fors+func+generic+head+index+item+keyed+lfunc+list+locs+method+named+numeric+primary+repeats+ret+simple+stat+stats+sub+suffix+suffixed+table+tail+tails+targs+upto+whiles.Proof.Of-suffixed.{suffixed-Inv-loop, suffixed-μ-loop, suffixed-add-primary, suffixed-primary-requires, suffixed-enum-known-e, suffixed-same-length, suffixed-returns, suffixed-enum-known-d, suffixed-loop-holds, suffixed-look-ahead-requires, suffixed-enum-known-d-2, suffixed-sub-put, suffixed-put-requires, suffixed-same-length-2, suffixed-returns-2, suffixed-enum-known-t, suffixed-suffix-requires, suffixed-enum-known-e-2, suffixed-add-n, suffixed-loop-less, suffixed-loop-again, suffixed-enum-told, suffixed-sub-put-2, suffixed-put-requires-2, suffixed-same-length-3, suffixed-returns-3, suffixed-enum-known-e-3, suffixed-same-length-4, suffixed-returns-4}
 use Rattle.parser.proofs.+args+arm+arms+assign+block+body+call+cond+def+dos+ended+estat+exps+field+fields+fors+func+generic+head+index+item+keyed+lfunc+list+locs+method+named+numeric+primary+repeats+ret+simple+stat+stats+sub+suffix+suffixed+table+tail+tails+targs+upto+whiles.Proof.Of-table.{table-expect-next-requires, table-enum-known-d, table-enum-known-e, table-returns, table-add-fields, table-fields-requires, table-enum-known-e-2, table-enum-known-e-3, table-close-requires, table-same-length, table-returns-2, table-same-length-2, table-returns-3}
-use Rattle.parser.proofs.+args+arm+arms+assign+block+body+call+cond+def+dos+ended+estat+exps+field+fields+fors+func+generic+head+index+item+keyed+lfunc+list+locs+method+named+numeric+primary+repeats+ret+simple+stat+stats+sub+suffix+suffixed+table+tail+tails+targs+upto+whiles.Proof.Of-tail.{tail-take-next-requires, tail-enum-known-e, tail-enum-known-d, tail-add-sub, tail-sub-requires, tail-enum-known-e-2, tail-enum-known-e-3, tail-close-requires, tail-returns, tail-same-length, tail-returns-2, tail-same-length-2, tail-returns-3}
+use Rattle.parser.proofs.+args+arm+arms+assign+block+body+call+cond+def+dos+ended+estat+exps+field+fields+fors+func+generic+head+index+item+keyed+lfunc+list+locs+method+named+numeric+primary+repeats+ret+simple+stat+stats+sub+suffix+suffixed+table+tail+tails+targs+upto+whiles.Proof.Of-tail.{tail-take-next-requires, tail-enum-known-e, tail-enum-known-t, tail-hear-requires, tail-add-sub, tail-sub-requires, tail-enum-known-e-2, tail-enum-known-e-3, tail-close-requires, tail-returns, tail-same-length, tail-returns-2, tail-same-length-2, tail-returns-3}
 use Rattle.parser.proofs.+args+arm+arms+assign+block+body+call+cond+def+dos+ended+estat+exps+field+fields+fors+func+generic+head+index+item+keyed+lfunc+list+locs+method+named+numeric+primary+repeats+ret+simple+stat+stats+sub+suffix+suffixed+table+tail+tails+targs+upto+whiles.Proof.Of-tails.{tails-Inv-loop, tails-μ-loop, tails-loop-holds, tails-look-ahead-requires, tails-enum-known-d, tails-same-length, tails-returns, tails-enum-known-t, tails-get-binary-operator-requires, tails-enum-told, tails-same-length-2, tails-returns-2, tails-enum-known-op, tails-binary-priority-requires, tails-same-length-3, tails-returns-3, tails-tail-requires, tails-enum-known-e, tails-same-length-4, tails-returns-4, tails-enum-known-e-2, tails-add-n, tails-loop-less, tails-loop-again}
 use Rattle.parser.proofs.+args+arm+arms+assign+block+body+call+cond+def+dos+ended+estat+exps+field+fields+fors+func+generic+head+index+item+keyed+lfunc+list+locs+method+named+numeric+primary+repeats+ret+simple+stat+stats+sub+suffix+suffixed+table+tail+tails+targs+upto+whiles.Proof.Of-targs.{targs-Inv-loop, targs-μ-loop, targs-loop-holds, targs-check-ahead-requires, targs-same-length, targs-returns, targs-take-next-requires, targs-enum-known-e, targs-enum-known-e-2, targs-same-length-2, targs-returns-2, targs-suffixed-requires, targs-enum-known-e-3, targs-same-length-3, targs-returns-3, targs-enum-known-f, targs-is-target-requires, targs-misfit-requires, targs-same-length-4, targs-returns-4, targs-add-n, targs-loop-less, targs-loop-again}
 use Rattle.parser.proofs.+args+arm+arms+assign+block+body+call+cond+def+dos+ended+estat+exps+field+fields+fors+func+generic+head+index+item+keyed+lfunc+list+locs+method+named+numeric+primary+repeats+ret+simple+stat+stats+sub+suffix+suffixed+table+tail+tails+targs+upto+whiles.Proof.Of-upto.{upto-sub-requires, upto-enum-known-e, upto-enum-known-d, upto-check-ahead-requires, upto-body-requires, upto-same-length, upto-returns, upto-take-next-requires, upto-enum-known-e-2, upto-enum-known-f, upto-sub-requires-2, upto-enum-known-e-3, upto-enum-known-h, upto-body-requires-2, upto-same-length-2, upto-returns-2, upto-same-length-3, upto-returns-3, upto-same-length-4, upto-returns-4, upto-same-length-5, upto-returns-5}
@@ -1530,10 +1533,14 @@ pub +args+arm+arms+assign+block+body+call+cond+def+dos+ended+estat+exps+field+fi
     (λ t. sub-lts.spec (
       deep-reads.Asked,
       deep-reads.Learnt,
+      begun-reads.Asked,
+      begun-reads.Learnt,
       head-below t,
       head.Post,
       tails-below t,
       tails.Post,
+      back-reads.Asked,
+      back-reads.Learnt,
       close-reads.Asked,
       close-reads.Learnt,
     )
@@ -1541,6 +1548,7 @@ pub +args+arm+arms+assign+block+body+call+cond+def+dos+ended+estat+exps+field+fi
     sub.Post
     (sub-deep-requires t)
     (sub-returns t)
+    (sub-begun-requires t)
     (sub-add-head t)
     (sub-sub-head t)
     (sub-head-requires t)
@@ -1550,6 +1558,7 @@ pub +args+arm+arms+assign+block+body+call+cond+def+dos+ended+estat+exps+field+fi
     (sub-tails-requires t)
     (sub-enum-known-e-2 t)
     (sub-enum-known-e-3 t)
+    (sub-back-requires t)
     (sub-close-requires t)
     (sub-same-length t)
     (sub-returns-2 t)
@@ -1663,6 +1672,8 @@ pub +args+arm+arms+assign+block+body+call+cond+def+dos+ended+estat+exps+field+fi
     (λ t. tail-lts.spec (
       take-next-reads.Asked,
       take-next-reads.Learnt,
+      hear-reads.Asked,
+      hear-reads.Learnt,
       sub-below t,
       sub.Post,
       close-reads.Asked,
@@ -1672,7 +1683,8 @@ pub +args+arm+arms+assign+block+body+call+cond+def+dos+ended+estat+exps+field+fi
     tail.Post
     (tail-take-next-requires t)
     (tail-enum-known-e t)
-    (tail-enum-known-d t)
+    (tail-enum-known-t t)
+    (tail-hear-requires t)
     (tail-add-sub t)
     (tail-sub-requires t)
     (tail-enum-known-e-2 t)

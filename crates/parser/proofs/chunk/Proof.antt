@@ -1,5 +1,6 @@
 use borrow.Author.Needs.{needs}
 use mathlib.Core.Path.{sym, ap, _∙_}
+use mathlib.Core.Bool.{false}
 use Prim.Native.Nat.{ℕ, _-_}
 use native.Mathlib.Omega.{arith}
 use Rattle.grammar.specs.Reading.{fail, last}
@@ -8,6 +9,7 @@ use Rattle.stream.proofs.Words.{some}
 use Rattle.parser.proofs.Kit.{kept}
 use Rattle.parser.proofs.Whole.{start, failed, done, block-fails, chunk-ends, chunk-left}
 use Rattle.grammar.specs.Productions.{block as block′}
+use Rattle.quarrel.specs.Notes.{NONE, note}
 use borrow.Author.Needs.{needs}
 use Rattle.parser.proofs.chunk.Statement.{statement}
 use Rattle.parser.proofs.chunk.Tie as tie
@@ -51,7 +53,7 @@ same-length c = (c .before .before .before .before .before .block) .kept .1 .0
 
 -- src/lib.rt:1588:1
 returns : tie.Need-returns
-returns c = block-fails ((c .before .before .before .before .before .before .before .before .before .args) .stream .now) ((c .before .before .before .before .before .before .before .before .before .args) .ranking) (failed ((c .before .before .before .before .before .before .before .before .before .args) .stream .now) 0 0 1 ((c .before .before .before .before .before .before .before .before .before .args) .nodes .now) ((c .before .before .before .before .before .block) .last .1 .0) (says ((c .before .before .before .before .before .before .before .before .before .args) .stream .now) ((c .before .before .before .before .before .before .before .before .before .args) .ranking) 199 block′ start) ((c .before .before .before .before .before .block) .result) ((c .before .before .before .before .before .block) .ensures) ((c .before .e) .given .1))
+returns c = block-fails ((c .before .before .before .before .before .before .before .before .before .args) .stream .now) ((c .before .before .before .before .before .before .before .before .before .args) .ranking) (failed ((c .before .before .before .before .before .before .before .before .before .args) .stream .now) (note false NONE NONE) 0 0 1 ((c .before .before .before .before .before .before .before .before .before .args) .nodes .now) ((c .before .before .before .before .before .block) .last .1 .0) (says ((c .before .before .before .before .before .before .before .before .before .args) .stream .now) ((c .before .before .before .before .before .before .before .before .before .args) .ranking) 199 block′ start) ((c .before .before .before .before .before .block) .result) ((c .before .before .before .before .before .block) .ensures) ((c .before .e) .given .1))
 
 -- src/lib.rt:1588:1
 same-length-2 : tie.Need-same-length-2
@@ -59,7 +61,7 @@ same-length-2 c = (c .before .before .before .before .before .before .before .be
 
 -- src/lib.rt:1588:1
 returns-2 : tie.Need-returns-2
-returns-2 c = chunk-ends ((c .before .before .before .before .before .before .before .before .before .before .before .before .before .args) .stream .now) ((c .before .before .before .before .before .before .before .before .before .before .before .before .before .args) .ranking) (done ((c .before .before .before .before .before .before .before .before .before .before .before .before .before .args) .stream .now) 0 0 1 ((c .before .before .before .before .before .before .before .before .before .before .before .before .before .args) .nodes .now) ((c .before .before .before .before .before .before .before .before .before .block) .last .1 .0) (says ((c .before .before .before .before .before .before .before .before .before .before .before .before .before .args) .stream .now) ((c .before .before .before .before .before .before .before .before .before .before .before .before .before .args) .ranking) 199 block′ start) ((c .before .before .before .before .before .before .before .before .before .block) .result) ((c .before .before .before .before .before .before .before .before .before .block) .ensures) ((c .before .before .before .before .before .c) .given .1)) (sym ((c .before .before .before .look-ahead) .ensures) ∙ (c .before .d) .given .1)
+returns-2 c = chunk-ends ((c .before .before .before .before .before .before .before .before .before .before .before .before .before .args) .stream .now) ((c .before .before .before .before .before .before .before .before .before .before .before .before .before .args) .ranking) (done ((c .before .before .before .before .before .before .before .before .before .before .before .before .before .args) .stream .now) (note false NONE NONE) 0 0 1 ((c .before .before .before .before .before .before .before .before .before .before .before .before .before .args) .nodes .now) ((c .before .before .before .before .before .before .before .before .before .block) .last .1 .0) (says ((c .before .before .before .before .before .before .before .before .before .before .before .before .before .args) .stream .now) ((c .before .before .before .before .before .before .before .before .before .before .before .before .before .args) .ranking) 199 block′ start) ((c .before .before .before .before .before .before .before .before .before .block) .result) ((c .before .before .before .before .before .before .before .before .before .block) .ensures) ((c .before .before .before .before .before .c) .given .1)) (sym ((c .before .before .before .look-ahead) .ensures) ∙ (c .before .d) .given .1)
 
 -- src/lib.rt:1588:1
 same-length-3 : tie.Need-same-length-3
@@ -68,7 +70,7 @@ same-length-3 c = (c .before .before .before .before .before .before .before .be
 -- src/lib.rt:1588:1
 returns-3 : tie.Need-returns-3
 returns-3 c =
-    chunk-left ((c .before .before .before .before .before .before .before .before .before .before .before .before .before .before .args) .stream .now) ((c .before .before .before .before .before .before .before .before .before .before .before .before .before .before .args) .ranking) (done ((c .before .before .before .before .before .before .before .before .before .before .before .before .before .before .args) .stream .now) 0 0 1 ((c .before .before .before .before .before .before .before .before .before .before .before .before .before .before .args) .nodes .now) ((c .before .before .before .before .before .before .before .before .before .before .block) .last .1 .0) (says ((c .before .before .before .before .before .before .before .before .before .before .before .before .before .before .args) .stream .now) ((c .before .before .before .before .before .before .before .before .before .before .before .before .before .before .args) .ranking) 199 block′ start) ((c .before .before .before .before .before .before .before .before .before .before .block) .result) ((c .before .before .before .before .before .before .before .before .before .before .block) .ensures) ((c .before .before .before .before .before .before .c) .given .1)) (sym ((c .before .before .before .before .look-ahead) .ensures) ∙ (c .before .before .d2) .given .1)
+    chunk-left ((c .before .before .before .before .before .before .before .before .before .before .before .before .before .before .args) .stream .now) ((c .before .before .before .before .before .before .before .before .before .before .before .before .before .before .args) .ranking) (done ((c .before .before .before .before .before .before .before .before .before .before .before .before .before .before .args) .stream .now) (note false NONE NONE) 0 0 1 ((c .before .before .before .before .before .before .before .before .before .before .before .before .before .before .args) .nodes .now) ((c .before .before .before .before .before .before .before .before .before .before .block) .last .1 .0) (says ((c .before .before .before .before .before .before .before .before .before .before .before .before .before .before .args) .stream .now) ((c .before .before .before .before .before .before .before .before .before .before .before .before .before .before .args) .ranking) 199 block′ start) ((c .before .before .before .before .before .before .before .before .before .before .block) .result) ((c .before .before .before .before .before .before .before .before .before .before .block) .ensures) ((c .before .before .before .before .before .before .c) .given .1)) (sym ((c .before .before .before .before .look-ahead) .ensures) ∙ (c .before .before .d2) .given .1)
     ∙ ap (λ (z : ℕ). fail (record { number = 2; line = z; found = 0; expected = 0 })) (sym ((c .reading-line) .ensures))
 
 pub chunk-spec : {M : Type 1} → statement M

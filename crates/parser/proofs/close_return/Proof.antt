@@ -9,8 +9,8 @@ use Rattle.grammar.specs.Reading.{read, hold}
 use Rattle.grammar.specs.Levels.{readers}
 use Rattle.grammar.specs.Term.{empty, any}
 use Rattle.parser.specs.Contract.{again}
-use Rattle.parser.proofs.Steps.{check-in, check-out, check-place}
-use Rattle.parser.proofs.Kit.{kept, lower, alter, looked}
+use Rattle.parser.proofs.Steps.{check-in, check-out, check-place, check-note}
+use Rattle.parser.proofs.Kit.{kept, lower, alter, renoted, looked}
 use Rattle.parser.proofs.Tokens.{any-fail, any-fine}
 use borrow.Author.Needs.{needs}
 use Rattle.parser.proofs.close_return.Statement.{statement}
@@ -36,7 +36,7 @@ same-length c = (c .before .before .close) .kept .0
 -- src/lib.rt:321:9
 returns : tie.Need-returns
 unfolding read
-returns c = λ k h. rw ((c .before .before .close) .ensures .0) (looked ((c .before .before .before .before .before .before .before .before .before .args) .nodes .now) ((c .before .before .before .before .before .before .before .before .before .args) .used) 0 ((c .before .before .before .before .before .before .before .before .before .args) .c) (((c .before .before .before .before .before .before .check-ahead) .result) .cursor) (check-out ((c .before .before .before .before .before .before .before .before .before .args) .stream .now) (ranks k) 0 (readers ((c .before .before .before .before .before .before .before .before .before .args) .stream .now) (ranks k) h) (hold 0 0 none) again ((c .before .before .before .before .before .before .before .before .before .args) .c) 45 any empty (λ z. omega arith) ((c .before .before .before .before .before .before .check-ahead) .ensures) (not-true (((c .before .before .before .before .before .before .check-ahead) .result) .found) ((c .before .before .before .before .if1) .taken))) (check-place ((c .before .before .before .before .before .before .before .before .before .args) .stream .now) ((c .before .before .before .before .before .before .before .before .before .args) .c) 0 45 ((c .before .before .before .before .before .before .check-ahead) .ensures)) (((c .before .before .before .before .before .before .before .before .before .pre) .0) .at) (((c .before .before .before .before .before .before .before .before .before .pre) .0) .room), (c .before .before .close) .ensures .1)
+returns c = λ k h. rw ((c .before .before .close) .ensures .0) (looked ((c .before .before .before .before .before .before .before .before .before .args) .nodes .now) ((c .before .before .before .before .before .before .before .before .before .args) .used) 0 ((c .before .before .before .before .before .before .before .before .before .args) .c) (((c .before .before .before .before .before .before .check-ahead) .result) .cursor) (check-out ((c .before .before .before .before .before .before .before .before .before .args) .stream .now) (ranks k) 0 (readers ((c .before .before .before .before .before .before .before .before .before .args) .stream .now) (ranks k) h) (hold 0 0 none) again ((c .before .before .before .before .before .before .before .before .before .args) .c) 45 any empty (λ z. omega arith) ((c .before .before .before .before .before .before .check-ahead) .ensures) (not-true (((c .before .before .before .before .before .before .check-ahead) .result) .found) ((c .before .before .before .before .if1) .taken))) (check-place ((c .before .before .before .before .before .before .before .before .before .args) .stream .now) ((c .before .before .before .before .before .before .before .before .before .args) .c) 0 45 ((c .before .before .before .before .before .before .check-ahead) .ensures)) (check-note ((c .before .before .before .before .before .before .before .before .before .args) .stream .now) ((c .before .before .before .before .before .before .before .before .before .args) .c) 0 45 ((c .before .before .before .before .before .before .check-ahead) .ensures)) (((c .before .before .before .before .before .before .before .before .before .pre) .0) .at) (((c .before .before .before .before .before .before .before .before .before .pre) .0) .room), (c .before .before .close) .ensures .1)
 
 -- src/lib.rt:323:11
 take-next-requires : tie.Need-take-next-requires
@@ -68,7 +68,7 @@ returns-3 : tie.Need-returns-3
 unfolding read
 returns-3 c =
     λ k h.
-    let f = any-fine ((c .before .before .before .before .before .before .before .before .before .before .before .before .before .args) .stream .now) (ranks k) 0 (readers ((c .before .before .before .before .before .before .before .before .before .before .before .before .before .args) .stream .now) (ranks k) h) (hold 0 0 none) again (((c .before .before .before .before .before .before .before .before .before .before .check-ahead) .result) .cursor) ((c .before .before .before .before .before .before .before .before .before .before .before .before .before .args) .nodes .now) ((c .before .before .before .before .before .before .before .before .before .before .before .before .before .args) .used) 0 (((c .before .before .before .before .before .before .before .before .before .before .before .before .before .pre) .0) .formed) (omega (arith, ((c .before .before .before .before .before .before .before .before .before .before .before .before .before .pre) .0) .room, (check-place ((c .before .before .before .before .before .before .before .before .before .before .before .before .before .args) .stream .now) ((c .before .before .before .before .before .before .before .before .before .before .before .before .before .args) .c) 0 45 ((c .before .before .before .before .before .before .before .before .before .before .check-ahead) .ensures)))) ((sym ((c .before .before .before .before .before .before .before .take-next) .ensures)) ∙ (c .before .before .before .before .before .e2) .given .1) in
+    let f = renoted (check-note ((c .before .before .before .before .before .before .before .before .before .before .before .before .before .args) .stream .now) ((c .before .before .before .before .before .before .before .before .before .before .before .before .before .args) .c) 0 45 ((c .before .before .before .before .before .before .before .before .before .before .check-ahead) .ensures)) (any-fine ((c .before .before .before .before .before .before .before .before .before .before .before .before .before .args) .stream .now) (ranks k) 0 (readers ((c .before .before .before .before .before .before .before .before .before .before .before .before .before .args) .stream .now) (ranks k) h) (hold 0 0 none) again (((c .before .before .before .before .before .before .before .before .before .before .check-ahead) .result) .cursor) ((c .before .before .before .before .before .before .before .before .before .before .before .before .before .args) .nodes .now) ((c .before .before .before .before .before .before .before .before .before .before .before .before .before .args) .used) 0 (((c .before .before .before .before .before .before .before .before .before .before .before .before .before .pre) .0) .formed) (omega (arith, ((c .before .before .before .before .before .before .before .before .before .before .before .before .before .pre) .0) .room, (check-place ((c .before .before .before .before .before .before .before .before .before .before .before .before .before .args) .stream .now) ((c .before .before .before .before .before .before .before .before .before .before .before .before .before .args) .c) 0 45 ((c .before .before .before .before .before .before .before .before .before .before .check-ahead) .ensures)))) ((sym ((c .before .before .before .before .before .before .before .take-next) .ensures)) ∙ (c .before .before .before .before .before .e2) .given .1)) in
     rw ((c .before .before .close2) .ensures .0) (lower (((c .before .before .before .before .before .before .before .before .before .before .before .before .before .args) .c) .place) (alter (check-in ((c .before .before .before .before .before .before .before .before .before .before .before .before .before .args) .stream .now) (ranks k) 0 (readers ((c .before .before .before .before .before .before .before .before .before .before .before .before .before .args) .stream .now) (ranks k) h) (hold 0 0 none) again ((c .before .before .before .before .before .before .before .before .before .before .before .before .before .args) .c) 45 any empty (λ z. omega arith) ((c .before .before .before .before .before .before .before .before .before .before .check-ahead) .ensures) (not-false (((c .before .before .before .before .before .before .before .before .before .before .check-ahead) .result) .found) ((c .before .before .before .before .before .before .before .before .if1) .left))) f) (omega (arith, f .later, (check-place ((c .before .before .before .before .before .before .before .before .before .before .before .before .before .args) .stream .now) ((c .before .before .before .before .before .before .before .before .before .before .before .before .before .args) .c) 0 45 ((c .before .before .before .before .before .before .before .before .before .before .check-ahead) .ensures)))), (c .before .before .close2) .ensures .1)
 
 pub close-return-spec : {M : Type 1} → statement M

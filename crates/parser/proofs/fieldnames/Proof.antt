@@ -20,9 +20,9 @@ use Rattle.grammar.specs.Productions.{nameleaf}
 use Rattle.parser.specs.Contract.{says, under, again}
 use Rattle.parser.specs.Parts as P
 use Rattle.stream.proofs.Words.{few}
-use Rattle.parser.proofs.Steps.{took-next, look-in, look-out, end-out, look-place, end-place}
+use Rattle.parser.proofs.Steps.{took-next, look-in, look-out, end-out, look-place, end-place, look-note, end-note}
 use Rattle.parser.proofs.Among.{among, one, other}
-use Rattle.parser.proofs.Kit.{add-none, then-assoc, kept, alter, revalue, looked, weighs, Going, begin, going-length, fails, ends, turns, stop, past, both}
+use Rattle.parser.proofs.Kit.{add-none, then-assoc, kept, alter, revalue, renoted, looked, weighs, Going, begin, going-length, fails, ends, turns, stop, past, both}
 use Rattle.parser.proofs.Tokens.{ready-after, any-fail, any-fine}
 use Rattle.parser.proofs.Looks.{look-again, end-again}
 use Rattle.parser.proofs.Around.{looping}
@@ -36,7 +36,7 @@ use Rattle.stream.proofs.reader.look_ahead.Reads as look-ahead-reads
 use Rattle.stream.proofs.reader.take_next.Reads as take-next-reads
 
 abbrev Inv-loop : tie.InvT-loop
-Inv-loop stream nodes₀ used at₀ u₀ n₀ nodes at u n = Formed stream × (at .place < records stream) × (u ≤ 4 * at .place + 0) × (n + 2 * at₀ .place ≤ 2 * at .place) × ((k : Ranking) (h : ℕ) → Going stream (at₀ .place) used 0 nodes₀ nodes (says stream k h P.fieldnames at₀) (under stream k 0 h 0 P.fieldnames) at u n)
+Inv-loop stream nodes₀ used at₀ u₀ n₀ nodes at u n = Formed stream × (at .place < records stream) × (u ≤ 4 * at .place + 0) × (n + 2 * at₀ .place ≤ 2 * at .place) × ((k : Ranking) (h : ℕ) → Going stream (at₀ .note) (at₀ .place) used 0 nodes₀ nodes (says stream k h P.fieldnames at₀) (under stream k 0 h 0 P.fieldnames) at u n)
 
 abbrev μ-loop : tie.MeasureT-loop
 μ-loop stream nodes₀ used at₀ u₀ n₀ nodes at u n = records stream - at .place
@@ -63,7 +63,7 @@ unfolding read
 returns c =
     λ k h.
     let o = ap (λ (z : Out). then z (read ((c .before .before .before .before .before .before .before .args) .stream .now) (ranks k) 0 (readers ((c .before .before .before .before .before .before .before .args) .stream .now) (ranks k) h) (hold 0 0 none) (opt ahead (46 ∷ []) (any ⨾ nameleaf ⨾ plus 1)) again)) (looping ((c .before .before .before .before .before .before .before .args) .stream .now) k 0 h 0 (on ahead (44 ∷ []) ((any ⨾ nameleaf ⨾ plus 2) ⨾ again′) empty) refl ((c .before .before .before .before .loop) .at) (((c .before .before .before .before .loop) .inv) .1) ∙ end-out ((c .before .before .before .before .before .before .before .args) .stream .now) (ranks k) 0 (readers ((c .before .before .before .before .before .before .before .args) .stream .now) (ranks k) h) (hold 0 0 none) (under ((c .before .before .before .before .before .before .before .args) .stream .now) k 0 h 0 (iter (on ahead (44 ∷ []) ((any ⨾ nameleaf ⨾ plus 2) ⨾ again′) empty))) ((c .before .before .before .before .loop) .at) (44 ∷ []) ((any ⨾ nameleaf ⨾ plus 2) ⨾ again′) empty (sym ((c .before .before .before .look-ahead) .ensures) ∙ (c .before .d) .given .1) refl) ∙ add-none (read ((c .before .before .before .before .before .before .before .args) .stream .now) (ranks k) 0 (readers ((c .before .before .before .before .before .before .before .args) .stream .now) (ranks k) h) (hold 0 0 none) (opt ahead (46 ∷ []) (any ⨾ nameleaf ⨾ plus 1)) again (((c .before .d) .given .0 .0) .place) (((c .before .d) .given .0 .0) .mark)) ∙ end-out ((c .before .before .before .before .before .before .before .args) .stream .now) (ranks k) 0 (readers ((c .before .before .before .before .before .before .before .args) .stream .now) (ranks k) h) (hold 0 0 none) again ((c .before .d) .given .0 .0) (46 ∷ []) (any ⨾ nameleaf ⨾ plus 1) empty (end-again ((c .before .before .before .before .before .before .before .args) .stream .now) ((c .before .before .before .before .loop) .at) (sym ((c .before .before .before .look-ahead) .ensures) ∙ (c .before .d) .given .1)) refl in
-    (revalue (omega arith) (ends (((c .before .before .before .before .loop) .inv) .4 k h) (looked _ ((c .before .before .before .before .loop) .u) 0 ((c .before .before .before .before .loop) .at) ((c .before .d) .given .0 .0) o (end-place ((c .before .before .before .before .before .before .before .args) .stream .now) ((c .before .before .before .before .loop) .at) (sym ((c .before .before .before .look-ahead) .ensures) ∙ (c .before .d) .given .1)) (((c .before .before .before .before .loop) .inv) .1) (((c .before .before .before .before .loop) .inv) .2)) (omega arith)), omega (arith, (end-place ((c .before .before .before .before .before .before .before .args) .stream .now) ((c .before .before .before .before .loop) .at) (sym ((c .before .before .before .look-ahead) .ensures) ∙ (c .before .d) .given .1)), ((c .before .before .before .before .loop) .inv) .3))
+    (revalue (omega arith) (ends (((c .before .before .before .before .loop) .inv) .4 k h) (looked _ ((c .before .before .before .before .loop) .u) 0 ((c .before .before .before .before .loop) .at) ((c .before .d) .given .0 .0) o (end-place ((c .before .before .before .before .before .before .before .args) .stream .now) ((c .before .before .before .before .loop) .at) (sym ((c .before .before .before .look-ahead) .ensures) ∙ (c .before .d) .given .1)) (end-note ((c .before .before .before .before .before .before .before .args) .stream .now) ((c .before .before .before .before .loop) .at) (sym ((c .before .before .before .look-ahead) .ensures) ∙ (c .before .d) .given .1)) (((c .before .before .before .before .loop) .inv) .1) (((c .before .before .before .before .loop) .inv) .2)) (omega arith)), omega (arith, (end-place ((c .before .before .before .before .before .before .before .args) .stream .now) ((c .before .before .before .before .loop) .at) (sym ((c .before .before .before .look-ahead) .ensures) ∙ (c .before .d) .given .1)), ((c .before .before .before .before .loop) .inv) .3))
 
 -- src/lib.rt:222:24
 enum-known-t : tie.Need-enum-known-t Inv-loop μ-loop
@@ -83,7 +83,7 @@ enum-known-e-2 c = search needs
 
 -- src/lib.rt:226:61
 add-t26 : tie.Need-add-t26 Inv-loop μ-loop
-add-t26 c = search needs
+add-t26 c = let b = few ((c .before .before .before .before .before .before .before .before .before .before .before .before .before .before .before .before .args) .stream .now) (((c .before .before .before .before .before .before .before .before .before .before .before .before .before .loop) .inv) .0) in omega (arith, ((c .before .before .before .before .before .before .before .before .before .before .before .before .before .loop) .inv) .3, ((c .before .before .before .before .before .before .before .before .before .before .before .before .before .loop) .inv) .1)
 
 -- src/lib.rt:224:21
 same-length-2 : tie.Need-same-length-2 Inv-loop μ-loop
@@ -111,7 +111,7 @@ returns-3 c =
     let q : member (((c .before .before .before .before .before .before .before .before .before .before .t) .given .0 .0) .kind) (44 ∷ []) ≡ false = among (44 ∷ []) ((c .before .before .before .before .before .before .before .if1) .taken) in
     let o = (ap (λ (z : Out). then z (read ((c .before .before .before .before .before .before .before .before .before .before .before .before .before .before .before .before .args) .stream .now) (ranks k) 0 (readers ((c .before .before .before .before .before .before .before .before .before .before .before .before .before .before .before .before .args) .stream .now) (ranks k) h) (hold 0 0 none) (opt ahead (46 ∷ []) (any ⨾ nameleaf ⨾ plus 1)) again)) (looping ((c .before .before .before .before .before .before .before .before .before .before .before .before .before .before .before .before .args) .stream .now) k 0 h 0 (on ahead (44 ∷ []) ((any ⨾ nameleaf ⨾ plus 2) ⨾ again′) empty) refl ((c .before .before .before .before .before .before .before .before .before .before .before .before .before .loop) .at) (((c .before .before .before .before .before .before .before .before .before .before .before .before .before .loop) .inv) .1) ∙ look-out ((c .before .before .before .before .before .before .before .before .before .before .before .before .before .before .before .before .args) .stream .now) (ranks k) 0 (readers ((c .before .before .before .before .before .before .before .before .before .before .before .before .before .before .before .before .args) .stream .now) (ranks k) h) (hold 0 0 none) (under ((c .before .before .before .before .before .before .before .before .before .before .before .before .before .before .before .before .args) .stream .now) k 0 h 0 (iter (on ahead (44 ∷ []) ((any ⨾ nameleaf ⨾ plus 2) ⨾ again′) empty))) ((c .before .before .before .before .before .before .before .before .before .before .before .before .before .loop) .at) (44 ∷ []) ((any ⨾ nameleaf ⨾ plus 2) ⨾ again′) empty (sym ((c .before .before .before .before .before .before .before .before .before .before .before .before .look-ahead) .ensures) ∙ (c .before .before .before .before .before .before .before .before .before .before .t) .given .1) q) ∙ add-none (read ((c .before .before .before .before .before .before .before .before .before .before .before .before .before .before .before .before .args) .stream .now) (ranks k) 0 (readers ((c .before .before .before .before .before .before .before .before .before .before .before .before .before .before .before .before .args) .stream .now) (ranks k) h) (hold 0 0 none) (opt ahead (46 ∷ []) (any ⨾ nameleaf ⨾ plus 1)) again (((c .before .before .before .before .before .before .before .before .before .before .t) .given .0 .1 .0) .place) (((c .before .before .before .before .before .before .before .before .before .before .t) .given .0 .1 .0) .mark))) ∙ look-in ((c .before .before .before .before .before .before .before .before .before .before .before .before .before .before .before .before .args) .stream .now) (ranks k) 0 (readers ((c .before .before .before .before .before .before .before .before .before .before .before .before .before .before .before .before .args) .stream .now) (ranks k) h) (hold 0 0 none) again ((c .before .before .before .before .before .before .before .before .before .before .t) .given .0 .1 .0) (46 ∷ []) (any ⨾ nameleaf ⨾ plus 1) empty (look-again ((c .before .before .before .before .before .before .before .before .before .before .before .before .before .before .before .before .args) .stream .now) ((c .before .before .before .before .before .before .before .before .before .before .before .before .before .loop) .at) (sym ((c .before .before .before .before .before .before .before .before .before .before .before .before .look-ahead) .ensures) ∙ (c .before .before .before .before .before .before .before .before .before .before .t) .given .1)) (one ((c .before .before .before .before .before .before .before .if1) .taken))
     ∙ sym (then-assoc (read ((c .before .before .before .before .before .before .before .before .before .before .before .before .before .before .before .before .args) .stream .now) (ranks k) 0 (readers ((c .before .before .before .before .before .before .before .before .before .before .before .before .before .before .before .before .args) .stream .now) (ranks k) h) (hold 0 0 none) any again (((c .before .before .before .before .before .before .before .before .before .before .t) .given .0 .1 .0) .place) (((c .before .before .before .before .before .before .before .before .before .before .t) .given .0 .1 .0) .mark)) (read ((c .before .before .before .before .before .before .before .before .before .before .before .before .before .before .before .before .args) .stream .now) (ranks k) 0 (readers ((c .before .before .before .before .before .before .before .before .before .before .before .before .before .before .before .before .args) .stream .now) (ranks k) h) (hold 0 0 none) nameleaf again) (read ((c .before .before .before .before .before .before .before .before .before .before .before .before .before .before .before .before .args) .stream .now) (ranks k) 0 (readers ((c .before .before .before .before .before .before .before .before .before .before .before .before .before .before .before .before .args) .stream .now) (ranks k) h) (hold 0 0 none) (plus 1) again)) in
-    let f = rw ((c .before .e2) .given .1) at ((c .before .before .before .before .before .method-name) .ensures k h) in
+    let f = renoted (look-note ((c .before .before .before .before .before .before .before .before .before .before .before .before .before .before .before .before .args) .stream .now) ((c .before .before .before .before .before .before .before .before .before .before .before .before .before .loop) .at) (sym ((c .before .before .before .before .before .before .before .before .before .before .before .before .look-ahead) .ensures) ∙ (c .before .before .before .before .before .before .before .before .before .before .t) .given .1)) (rw ((c .before .e2) .given .1) at ((c .before .before .before .before .before .method-name) .ensures k h)) in
     (revalue (omega arith) (ends (((c .before .before .before .before .before .before .before .before .before .before .before .before .before .loop) .inv) .4 k h) (alter o (both (read ((c .before .before .before .before .before .before .before .before .before .before .before .before .before .before .before .before .args) .stream .now) (ranks k) 0 (readers ((c .before .before .before .before .before .before .before .before .before .before .before .before .before .before .before .before .args) .stream .now) (ranks k) h) (hold 0 0 none) (plus 1) again) f (weighs _ _ 0 1 _ (f .at) (f .room)) (omega arith))) (omega (arith, (look-place ((c .before .before .before .before .before .before .before .before .before .before .before .before .before .before .before .before .args) .stream .now) ((c .before .before .before .before .before .before .before .before .before .before .before .before .before .loop) .at) (sym ((c .before .before .before .before .before .before .before .before .before .before .before .before .look-ahead) .ensures) ∙ (c .before .before .before .before .before .before .before .before .before .before .t) .given .1))))), omega (arith, f .later, (look-place ((c .before .before .before .before .before .before .before .before .before .before .before .before .before .before .before .before .args) .stream .now) ((c .before .before .before .before .before .before .before .before .before .before .before .before .before .loop) .at) (sym ((c .before .before .before .before .before .before .before .before .before .before .before .before .look-ahead) .ensures) ∙ (c .before .before .before .before .before .before .before .before .before .before .t) .given .1)), ((c .before .before .before .before .before .before .before .before .before .before .before .before .before .loop) .inv) .3))
 
 -- src/lib.rt:230:21
@@ -125,7 +125,7 @@ returns-4 c =
     λ k h.
     let q = other ((c .if2) .taken) in
     let o = (ap (λ (z : Out). then z (read ((c .before .before .before .before .before .before .before .before .before .before .before .args) .stream .now) (ranks k) 0 (readers ((c .before .before .before .before .before .before .before .before .before .before .before .args) .stream .now) (ranks k) h) (hold 0 0 none) (opt ahead (46 ∷ []) (any ⨾ nameleaf ⨾ plus 1)) again)) (looping ((c .before .before .before .before .before .before .before .before .before .before .before .args) .stream .now) k 0 h 0 (on ahead (44 ∷ []) ((any ⨾ nameleaf ⨾ plus 2) ⨾ again′) empty) refl ((c .before .before .before .before .before .before .before .before .loop) .at) (((c .before .before .before .before .before .before .before .before .loop) .inv) .1) ∙ look-out ((c .before .before .before .before .before .before .before .before .before .before .before .args) .stream .now) (ranks k) 0 (readers ((c .before .before .before .before .before .before .before .before .before .before .before .args) .stream .now) (ranks k) h) (hold 0 0 none) (under ((c .before .before .before .before .before .before .before .before .before .before .before .args) .stream .now) k 0 h 0 (iter (on ahead (44 ∷ []) ((any ⨾ nameleaf ⨾ plus 2) ⨾ again′) empty))) ((c .before .before .before .before .before .before .before .before .loop) .at) (44 ∷ []) ((any ⨾ nameleaf ⨾ plus 2) ⨾ again′) empty (sym ((c .before .before .before .before .before .before .before .look-ahead) .ensures) ∙ (c .before .before .before .before .before .t) .given .1) q) ∙ add-none (read ((c .before .before .before .before .before .before .before .before .before .before .before .args) .stream .now) (ranks k) 0 (readers ((c .before .before .before .before .before .before .before .before .before .before .before .args) .stream .now) (ranks k) h) (hold 0 0 none) (opt ahead (46 ∷ []) (any ⨾ nameleaf ⨾ plus 1)) again (((c .before .before .before .before .before .t) .given .0 .1 .0) .place) (((c .before .before .before .before .before .t) .given .0 .1 .0) .mark))) ∙ look-out ((c .before .before .before .before .before .before .before .before .before .before .before .args) .stream .now) (ranks k) 0 (readers ((c .before .before .before .before .before .before .before .before .before .before .before .args) .stream .now) (ranks k) h) (hold 0 0 none) again ((c .before .before .before .before .before .t) .given .0 .1 .0) (46 ∷ []) (any ⨾ nameleaf ⨾ plus 1) empty (look-again ((c .before .before .before .before .before .before .before .before .before .before .before .args) .stream .now) ((c .before .before .before .before .before .before .before .before .loop) .at) (sym ((c .before .before .before .before .before .before .before .look-ahead) .ensures) ∙ (c .before .before .before .before .before .t) .given .1)) (other ((c .before .before .if1) .left)) in
-    (revalue (omega arith) (ends (((c .before .before .before .before .before .before .before .before .loop) .inv) .4 k h) (looked _ ((c .before .before .before .before .before .before .before .before .loop) .u) 0 ((c .before .before .before .before .before .before .before .before .loop) .at) ((c .before .before .before .before .before .t) .given .0 .1 .0) o (look-place ((c .before .before .before .before .before .before .before .before .before .before .before .args) .stream .now) ((c .before .before .before .before .before .before .before .before .loop) .at) (sym ((c .before .before .before .before .before .before .before .look-ahead) .ensures) ∙ (c .before .before .before .before .before .t) .given .1)) (((c .before .before .before .before .before .before .before .before .loop) .inv) .1) (((c .before .before .before .before .before .before .before .before .loop) .inv) .2)) (omega arith)), omega (arith, (look-place ((c .before .before .before .before .before .before .before .before .before .before .before .args) .stream .now) ((c .before .before .before .before .before .before .before .before .loop) .at) (sym ((c .before .before .before .before .before .before .before .look-ahead) .ensures) ∙ (c .before .before .before .before .before .t) .given .1)), ((c .before .before .before .before .before .before .before .before .loop) .inv) .3))
+    (revalue (omega arith) (ends (((c .before .before .before .before .before .before .before .before .loop) .inv) .4 k h) (looked _ ((c .before .before .before .before .before .before .before .before .loop) .u) 0 ((c .before .before .before .before .before .before .before .before .loop) .at) ((c .before .before .before .before .before .t) .given .0 .1 .0) o (look-place ((c .before .before .before .before .before .before .before .before .before .before .before .args) .stream .now) ((c .before .before .before .before .before .before .before .before .loop) .at) (sym ((c .before .before .before .before .before .before .before .look-ahead) .ensures) ∙ (c .before .before .before .before .before .t) .given .1)) (look-note ((c .before .before .before .before .before .before .before .before .before .before .before .args) .stream .now) ((c .before .before .before .before .before .before .before .before .loop) .at) (sym ((c .before .before .before .before .before .before .before .look-ahead) .ensures) ∙ (c .before .before .before .before .before .t) .given .1)) (((c .before .before .before .before .before .before .before .before .loop) .inv) .1) (((c .before .before .before .before .before .before .before .before .loop) .inv) .2)) (omega arith)), omega (arith, (look-place ((c .before .before .before .before .before .before .before .before .before .before .before .args) .stream .now) ((c .before .before .before .before .before .before .before .before .loop) .at) (sym ((c .before .before .before .before .before .before .before .look-ahead) .ensures) ∙ (c .before .before .before .before .before .t) .given .1)), ((c .before .before .before .before .before .before .before .before .loop) .inv) .3))
 
 -- src/lib.rt:232:31
 take-next-requires : tie.Need-take-next-requires Inv-loop μ-loop
@@ -175,7 +175,7 @@ loop-again c =
       omega (arith, z .later, (took-next ((c .before .before .before .before .before .before .before .before .before .before .before .before .before .before .before .before .before .before .before .before .before .before .args) .stream .now) ((c .before .before .before .before .before .before .before .before .before .before .before .before .before .before .before .before .t) .given .0 .1 .0) ((sym ((c .before .before .before .before .before .before .before .before .before .before .take-next) .ensures)) ∙ (c .before .before .before .before .before .before .before .before .e3) .given .1)) .place, (look-place ((c .before .before .before .before .before .before .before .before .before .before .before .before .before .before .before .before .before .before .before .before .before .before .args) .stream .now) ((c .before .before .before .before .before .before .before .before .before .before .before .before .before .before .before .before .before .before .before .loop) .at) (sym ((c .before .before .before .before .before .before .before .before .before .before .before .before .before .before .before .before .before .before .look-ahead) .ensures) ∙ (c .before .before .before .before .before .before .before .before .before .before .before .before .before .before .before .before .t) .given .1)), ((c .before .before .before .before .before .before .before .before .before .before .before .before .before .before .before .before .before .before .before .loop) .inv) .3),
       λ k h.
           let f2 = rw ((c .before .f) .given .1) at ((c .before .before .before .before .before .name) .ensures k h) in
-          let f1 = any-fine ((c .before .before .before .before .before .before .before .before .before .before .before .before .before .before .before .before .before .before .before .before .before .before .args) .stream .now) (ranks k) 0 (readers ((c .before .before .before .before .before .before .before .before .before .before .before .before .before .before .before .before .before .before .before .before .before .before .args) .stream .now) (ranks k) h) (hold 0 0 none) (under ((c .before .before .before .before .before .before .before .before .before .before .before .before .before .before .before .before .before .before .before .before .before .before .args) .stream .now) k 0 h 0 (iter (on ahead (44 ∷ []) ((any ⨾ nameleaf ⨾ plus 2) ⨾ again′) empty))) ((c .before .before .before .before .before .before .before .before .before .before .before .before .before .before .before .before .t) .given .0 .1 .0) ((c .before .before .before .before .before .before .before .before .before .before .before .before .before .before .before .before .before .before .before .loop) .nodes) ((c .before .before .before .before .before .before .before .before .before .before .before .before .before .before .before .before .before .before .before .loop) .u) 0 (((c .before .before .before .before .before .before .before .before .before .before .before .before .before .before .before .before .before .before .before .loop) .inv) .0) (omega (arith, ((c .before .before .before .before .before .before .before .before .before .before .before .before .before .before .before .before .before .before .before .loop) .inv) .2, (look-place ((c .before .before .before .before .before .before .before .before .before .before .before .before .before .before .before .before .before .before .before .before .before .before .args) .stream .now) ((c .before .before .before .before .before .before .before .before .before .before .before .before .before .before .before .before .before .before .before .loop) .at) (sym ((c .before .before .before .before .before .before .before .before .before .before .before .before .before .before .before .before .before .before .look-ahead) .ensures) ∙ (c .before .before .before .before .before .before .before .before .before .before .before .before .before .before .before .before .t) .given .1)))) ((sym ((c .before .before .before .before .before .before .before .before .before .before .take-next) .ensures)) ∙ (c .before .before .before .before .before .before .before .before .e3) .given .1) in
+          let f1 = renoted (look-note ((c .before .before .before .before .before .before .before .before .before .before .before .before .before .before .before .before .before .before .before .before .before .before .args) .stream .now) ((c .before .before .before .before .before .before .before .before .before .before .before .before .before .before .before .before .before .before .before .loop) .at) (sym ((c .before .before .before .before .before .before .before .before .before .before .before .before .before .before .before .before .before .before .look-ahead) .ensures) ∙ (c .before .before .before .before .before .before .before .before .before .before .before .before .before .before .before .before .t) .given .1)) (any-fine ((c .before .before .before .before .before .before .before .before .before .before .before .before .before .before .before .before .before .before .before .before .before .before .args) .stream .now) (ranks k) 0 (readers ((c .before .before .before .before .before .before .before .before .before .before .before .before .before .before .before .before .before .before .before .before .before .before .args) .stream .now) (ranks k) h) (hold 0 0 none) (under ((c .before .before .before .before .before .before .before .before .before .before .before .before .before .before .before .before .before .before .before .before .before .before .args) .stream .now) k 0 h 0 (iter (on ahead (44 ∷ []) ((any ⨾ nameleaf ⨾ plus 2) ⨾ again′) empty))) ((c .before .before .before .before .before .before .before .before .before .before .before .before .before .before .before .before .t) .given .0 .1 .0) ((c .before .before .before .before .before .before .before .before .before .before .before .before .before .before .before .before .before .before .before .loop) .nodes) ((c .before .before .before .before .before .before .before .before .before .before .before .before .before .before .before .before .before .before .before .loop) .u) 0 (((c .before .before .before .before .before .before .before .before .before .before .before .before .before .before .before .before .before .before .before .loop) .inv) .0) (omega (arith, ((c .before .before .before .before .before .before .before .before .before .before .before .before .before .before .before .before .before .before .before .loop) .inv) .2, (look-place ((c .before .before .before .before .before .before .before .before .before .before .before .before .before .before .before .before .before .before .before .before .before .before .args) .stream .now) ((c .before .before .before .before .before .before .before .before .before .before .before .before .before .before .before .before .before .before .before .loop) .at) (sym ((c .before .before .before .before .before .before .before .before .before .before .before .before .before .before .before .before .before .before .look-ahead) .ensures) ∙ (c .before .before .before .before .before .before .before .before .before .before .before .before .before .before .before .before .t) .given .1)))) ((sym ((c .before .before .before .before .before .before .before .before .before .before .take-next) .ensures)) ∙ (c .before .before .before .before .before .before .before .before .e3) .given .1)) in
           turns (((c .before .before .before .before .before .before .before .before .before .before .before .before .before .before .before .before .before .before .before .loop) .inv) .4 k h) (ap (λ (z : Out). then z (read ((c .before .before .before .before .before .before .before .before .before .before .before .before .before .before .before .before .before .before .before .before .before .before .args) .stream .now) (ranks k) 0 (readers ((c .before .before .before .before .before .before .before .before .before .before .before .before .before .before .before .before .before .before .before .before .before .before .args) .stream .now) (ranks k) h) (hold 0 0 none) (opt ahead (46 ∷ []) (any ⨾ nameleaf ⨾ plus 1)) again)) (looping ((c .before .before .before .before .before .before .before .before .before .before .before .before .before .before .before .before .before .before .before .before .before .before .args) .stream .now) k 0 h 0 (on ahead (44 ∷ []) ((any ⨾ nameleaf ⨾ plus 2) ⨾ again′) empty) refl ((c .before .before .before .before .before .before .before .before .before .before .before .before .before .before .before .before .before .before .before .loop) .at) (((c .before .before .before .before .before .before .before .before .before .before .before .before .before .before .before .before .before .before .before .loop) .inv) .1) ∙ look-in ((c .before .before .before .before .before .before .before .before .before .before .before .before .before .before .before .before .before .before .before .before .before .before .args) .stream .now) (ranks k) 0 (readers ((c .before .before .before .before .before .before .before .before .before .before .before .before .before .before .before .before .before .before .before .before .before .before .args) .stream .now) (ranks k) h) (hold 0 0 none) (under ((c .before .before .before .before .before .before .before .before .before .before .before .before .before .before .before .before .before .before .before .before .before .before .args) .stream .now) k 0 h 0 (iter (on ahead (44 ∷ []) ((any ⨾ nameleaf ⨾ plus 2) ⨾ again′) empty))) ((c .before .before .before .before .before .before .before .before .before .before .before .before .before .before .before .before .before .before .before .loop) .at) (44 ∷ []) ((any ⨾ nameleaf ⨾ plus 2) ⨾ again′) empty (sym ((c .before .before .before .before .before .before .before .before .before .before .before .before .before .before .before .before .before .before .look-ahead) .ensures) ∙ (c .before .before .before .before .before .before .before .before .before .before .before .before .before .before .before .before .t) .given .1) (one ((c .before .before .before .before .before .before .before .before .before .before .before .if2) .left))) ∙ then-assoc (read ((c .before .before .before .before .before .before .before .before .before .before .before .before .before .before .before .before .before .before .before .before .before .before .args) .stream .now) (ranks k) 0 (readers ((c .before .before .before .before .before .before .before .before .before .before .before .before .before .before .before .before .before .before .before .before .before .before .args) .stream .now) (ranks k) h) (hold 0 0 none) (any ⨾ nameleaf ⨾ plus 2) (under ((c .before .before .before .before .before .before .before .before .before .before .before .before .before .before .before .before .before .before .before .before .before .before .args) .stream .now) k 0 h 0 (iter (on ahead (44 ∷ []) ((any ⨾ nameleaf ⨾ plus 2) ⨾ again′) empty))) (((c .before .before .before .before .before .before .before .before .before .before .before .before .before .before .before .before .t) .given .0 .1 .0) .place) (((c .before .before .before .before .before .before .before .before .before .before .before .before .before .before .before .before .t) .given .0 .1 .0) .mark)) (under ((c .before .before .before .before .before .before .before .before .before .before .before .before .before .before .before .before .before .before .before .before .before .before .args) .stream .now) k 0 h 0 (iter (on ahead (44 ∷ []) ((any ⨾ nameleaf ⨾ plus 2) ⨾ again′) empty))) (read ((c .before .before .before .before .before .before .before .before .before .before .before .before .before .before .before .before .before .before .before .before .before .before .args) .stream .now) (ranks k) 0 (readers ((c .before .before .before .before .before .before .before .before .before .before .before .before .before .before .before .before .before .before .before .before .before .before .args) .stream .now) (ranks k) h) (hold 0 0 none) (opt ahead (46 ∷ []) (any ⨾ nameleaf ⨾ plus 1)) again)) (both _ f1 (both _ f2 (weighs _ _ 0 2 _ (f2 .at) (f2 .room)) (omega arith)) (omega arith)) (omega (arith, (look-place ((c .before .before .before .before .before .before .before .before .before .before .before .before .before .before .before .before .before .before .before .before .before .before .args) .stream .now) ((c .before .before .before .before .before .before .before .before .before .before .before .before .before .before .before .before .before .before .before .loop) .at) (sym ((c .before .before .before .before .before .before .before .before .before .before .before .before .before .before .before .before .before .before .look-ahead) .ensures) ∙ (c .before .before .before .before .before .before .before .before .before .before .before .before .before .before .before .before .t) .given .1)))) (f2 .room),
     )
 
@@ -192,7 +192,7 @@ returns-6 : tie.Need-returns-6 Inv-loop μ-loop
 unfolding read
 returns-6 c =
     λ k h.
-    let f1 = any-fine ((c .before .before .before .before .before .before .before .before .before .before .before .before .before .before .before .before .before .before .before .before .before .before .args) .stream .now) (ranks k) 0 (readers ((c .before .before .before .before .before .before .before .before .before .before .before .before .before .before .before .before .before .before .before .before .before .before .args) .stream .now) (ranks k) h) (hold 0 0 none) (under ((c .before .before .before .before .before .before .before .before .before .before .before .before .before .before .before .before .before .before .before .before .before .before .args) .stream .now) k 0 h 0 (iter (on ahead (44 ∷ []) ((any ⨾ nameleaf ⨾ plus 2) ⨾ again′) empty))) ((c .before .before .before .before .before .before .before .before .before .before .before .before .before .before .before .before .t) .given .0 .1 .0) ((c .before .before .before .before .before .before .before .before .before .before .before .before .before .before .before .before .before .before .before .loop) .nodes) ((c .before .before .before .before .before .before .before .before .before .before .before .before .before .before .before .before .before .before .before .loop) .u) 0 (((c .before .before .before .before .before .before .before .before .before .before .before .before .before .before .before .before .before .before .before .loop) .inv) .0) (omega (arith, ((c .before .before .before .before .before .before .before .before .before .before .before .before .before .before .before .before .before .before .before .loop) .inv) .2, (look-place ((c .before .before .before .before .before .before .before .before .before .before .before .before .before .before .before .before .before .before .before .before .before .before .args) .stream .now) ((c .before .before .before .before .before .before .before .before .before .before .before .before .before .before .before .before .before .before .before .loop) .at) (sym ((c .before .before .before .before .before .before .before .before .before .before .before .before .before .before .before .before .before .before .look-ahead) .ensures) ∙ (c .before .before .before .before .before .before .before .before .before .before .before .before .before .before .before .before .t) .given .1)))) ((sym ((c .before .before .before .before .before .before .before .before .before .before .take-next) .ensures)) ∙ (c .before .before .before .before .before .before .before .before .e3) .given .1) in
+    let f1 = renoted (look-note ((c .before .before .before .before .before .before .before .before .before .before .before .before .before .before .before .before .before .before .before .before .before .before .args) .stream .now) ((c .before .before .before .before .before .before .before .before .before .before .before .before .before .before .before .before .before .before .before .loop) .at) (sym ((c .before .before .before .before .before .before .before .before .before .before .before .before .before .before .before .before .before .before .look-ahead) .ensures) ∙ (c .before .before .before .before .before .before .before .before .before .before .before .before .before .before .before .before .t) .given .1)) (any-fine ((c .before .before .before .before .before .before .before .before .before .before .before .before .before .before .before .before .before .before .before .before .before .before .args) .stream .now) (ranks k) 0 (readers ((c .before .before .before .before .before .before .before .before .before .before .before .before .before .before .before .before .before .before .before .before .before .before .args) .stream .now) (ranks k) h) (hold 0 0 none) (under ((c .before .before .before .before .before .before .before .before .before .before .before .before .before .before .before .before .before .before .before .before .before .before .args) .stream .now) k 0 h 0 (iter (on ahead (44 ∷ []) ((any ⨾ nameleaf ⨾ plus 2) ⨾ again′) empty))) ((c .before .before .before .before .before .before .before .before .before .before .before .before .before .before .before .before .t) .given .0 .1 .0) ((c .before .before .before .before .before .before .before .before .before .before .before .before .before .before .before .before .before .before .before .loop) .nodes) ((c .before .before .before .before .before .before .before .before .before .before .before .before .before .before .before .before .before .before .before .loop) .u) 0 (((c .before .before .before .before .before .before .before .before .before .before .before .before .before .before .before .before .before .before .before .loop) .inv) .0) (omega (arith, ((c .before .before .before .before .before .before .before .before .before .before .before .before .before .before .before .before .before .before .before .loop) .inv) .2, (look-place ((c .before .before .before .before .before .before .before .before .before .before .before .before .before .before .before .before .before .before .before .before .before .before .args) .stream .now) ((c .before .before .before .before .before .before .before .before .before .before .before .before .before .before .before .before .before .before .before .loop) .at) (sym ((c .before .before .before .before .before .before .before .before .before .before .before .before .before .before .before .before .before .before .look-ahead) .ensures) ∙ (c .before .before .before .before .before .before .before .before .before .before .before .before .before .before .before .before .t) .given .1)))) ((sym ((c .before .before .before .before .before .before .before .before .before .before .take-next) .ensures)) ∙ (c .before .before .before .before .before .before .before .before .e3) .given .1)) in
     fails (((c .before .before .before .before .before .before .before .before .before .before .before .before .before .before .before .before .before .before .before .loop) .inv) .4 k h) ((ap (λ (z : Out). then z (read ((c .before .before .before .before .before .before .before .before .before .before .before .before .before .before .before .before .before .before .before .before .before .before .args) .stream .now) (ranks k) 0 (readers ((c .before .before .before .before .before .before .before .before .before .before .before .before .before .before .before .before .before .before .before .before .before .before .args) .stream .now) (ranks k) h) (hold 0 0 none) (opt ahead (46 ∷ []) (any ⨾ nameleaf ⨾ plus 1)) again)) (looping ((c .before .before .before .before .before .before .before .before .before .before .before .before .before .before .before .before .before .before .before .before .before .before .args) .stream .now) k 0 h 0 (on ahead (44 ∷ []) ((any ⨾ nameleaf ⨾ plus 2) ⨾ again′) empty) refl ((c .before .before .before .before .before .before .before .before .before .before .before .before .before .before .before .before .before .before .before .loop) .at) (((c .before .before .before .before .before .before .before .before .before .before .before .before .before .before .before .before .before .before .before .loop) .inv) .1) ∙ look-in ((c .before .before .before .before .before .before .before .before .before .before .before .before .before .before .before .before .before .before .before .before .before .before .args) .stream .now) (ranks k) 0 (readers ((c .before .before .before .before .before .before .before .before .before .before .before .before .before .before .before .before .before .before .before .before .before .before .args) .stream .now) (ranks k) h) (hold 0 0 none) (under ((c .before .before .before .before .before .before .before .before .before .before .before .before .before .before .before .before .before .before .before .before .before .before .args) .stream .now) k 0 h 0 (iter (on ahead (44 ∷ []) ((any ⨾ nameleaf ⨾ plus 2) ⨾ again′) empty))) ((c .before .before .before .before .before .before .before .before .before .before .before .before .before .before .before .before .before .before .before .loop) .at) (44 ∷ []) ((any ⨾ nameleaf ⨾ plus 2) ⨾ again′) empty (sym ((c .before .before .before .before .before .before .before .before .before .before .before .before .before .before .before .before .before .before .look-ahead) .ensures) ∙ (c .before .before .before .before .before .before .before .before .before .before .before .before .before .before .before .before .t) .given .1) (one ((c .before .before .before .before .before .before .before .before .before .before .before .if2) .left))) ∙ then-assoc (read ((c .before .before .before .before .before .before .before .before .before .before .before .before .before .before .before .before .before .before .before .before .before .before .args) .stream .now) (ranks k) 0 (readers ((c .before .before .before .before .before .before .before .before .before .before .before .before .before .before .before .before .before .before .before .before .before .before .args) .stream .now) (ranks k) h) (hold 0 0 none) (any ⨾ nameleaf ⨾ plus 2) (under ((c .before .before .before .before .before .before .before .before .before .before .before .before .before .before .before .before .before .before .before .before .before .before .args) .stream .now) k 0 h 0 (iter (on ahead (44 ∷ []) ((any ⨾ nameleaf ⨾ plus 2) ⨾ again′) empty))) (((c .before .before .before .before .before .before .before .before .before .before .before .before .before .before .before .before .t) .given .0 .1 .0) .place) (((c .before .before .before .before .before .before .before .before .before .before .before .before .before .before .before .before .t) .given .0 .1 .0) .mark)) (under ((c .before .before .before .before .before .before .before .before .before .before .before .before .before .before .before .before .before .before .before .before .before .before .args) .stream .now) k 0 h 0 (iter (on ahead (44 ∷ []) ((any ⨾ nameleaf ⨾ plus 2) ⨾ again′) empty))) (read ((c .before .before .before .before .before .before .before .before .before .before .before .before .before .before .before .before .before .before .before .before .before .before .args) .stream .now) (ranks k) 0 (readers ((c .before .before .before .before .before .before .before .before .before .before .before .before .before .before .before .before .before .before .before .before .before .before .args) .stream .now) (ranks k) h) (hold 0 0 none) (opt ahead (46 ∷ []) (any ⨾ nameleaf ⨾ plus 1)) again)) ∙ stop _ (past _ f1 (stop _ (rw ((c .before .e5) .given .1) at ((c .before .before .before .before .before .name) .ensures k h)))))
 
 pub fieldnames-spec : {M : Type 1} → statement M

@@ -50,7 +50,7 @@ same-length c = (c .before .before .put) .kept .0
 
 -- src/lib.rt:76:1
 returns-2 : tie.Need-returns-2
-returns-2 c = λ k h. leaf-after ((c .before .before .before .before .before .before .before .before .before .before .args) .stream .now) (ranks k) 0 (readers ((c .before .before .before .before .before .before .before .before .before .before .args) .stream .now) (ranks k) h) (hold 0 0 none) again ((c .before .before .before .before .before .before .before .before .before .before .args) .c) ((c .before .before .before .before .before .before .before .before .before .before .args) .nodes .now) ((c .before .before .before .before .before .before .before .before .before .before .args) .used) 0 ((c .before .before .before .before .before .before .before .before .before .before .args) .tag) ((c .before .before .before .before .before .before .before .before .before .before .pre) .formed) (omega arith) ((c .before .before .put) .ensures) any (any-says ((c .before .before .before .before .before .before .before .before .before .before .args) .stream .now) (ranks k) 0 (readers ((c .before .before .before .before .before .before .before .before .before .before .args) .stream .now) (ranks k) h) (hold 0 0 none) again ((c .before .before .before .before .before .before .before .before .before .before .args) .c) ((sym ((c .before .before .before .before .before .before .before .take-next) .ensures)) ∙ (c .before .before .before .before .before .t) .given .1)) (took-next ((c .before .before .before .before .before .before .before .before .before .before .args) .stream .now) ((c .before .before .before .before .before .before .before .before .before .before .args) .c) ((sym ((c .before .before .before .before .before .before .before .take-next) .ensures)) ∙ (c .before .before .before .before .before .t) .given .1))
+returns-2 c = λ k h. leaf-after ((c .before .before .before .before .before .before .before .before .before .before .args) .stream .now) (ranks k) 0 (readers ((c .before .before .before .before .before .before .before .before .before .before .args) .stream .now) (ranks k) h) (hold 0 0 none) again ((c .before .before .before .before .before .before .before .before .before .before .args) .c) ((c .before .before .before .before .before .before .before .before .before .before .args) .nodes .now) ((c .before .before .before .before .before .before .before .before .before .before .args) .used) 0 ((c .before .before .before .before .before .before .before .before .before .before .args) .tag) ((c .before .before .before .before .before .before .before .before .before .before .pre) .1) (((c .before .before .before .before .before .before .before .before .before .before .pre) .0) .formed) (omega arith) ((c .before .before .put) .ensures) any (any-says ((c .before .before .before .before .before .before .before .before .before .before .args) .stream .now) (ranks k) 0 (readers ((c .before .before .before .before .before .before .before .before .before .before .args) .stream .now) (ranks k) h) (hold 0 0 none) again ((c .before .before .before .before .before .before .before .before .before .before .args) .c) ((sym ((c .before .before .before .before .before .before .before .take-next) .ensures)) ∙ (c .before .before .before .before .before .t) .given .1)) (took-next ((c .before .before .before .before .before .before .before .before .before .before .args) .stream .now) ((c .before .before .before .before .before .before .before .before .before .before .args) .c) ((sym ((c .before .before .before .before .before .before .before .take-next) .ensures)) ∙ (c .before .before .before .before .before .t) .given .1))
 
 pub leaf-spec : {M : Type 1} → statement M
 leaf-spec =

@@ -1,5 +1,5 @@
 use borrow.Author.Needs.{needs}
-use mathlib.Core.Path.{sym, _∙_}
+use mathlib.Core.Path.{refl, sym, _∙_}
 use Prim.Native.Nat.{_-_}
 use native.Mathlib.Omega.{arith}
 use Rattle.operators.specs.Ranks.{ranks}
@@ -50,7 +50,7 @@ same-length c = (c .before .before .put) .kept .0
 
 -- src/lib.rt:90:1
 returns-2 : tie.Need-returns-2
-returns-2 c = λ k h. leaf-after ((c .before .before .before .before .before .before .before .before .before .before .args) .stream .now) (ranks k) 0 (readers ((c .before .before .before .before .before .before .before .before .before .before .args) .stream .now) (ranks k) h) (hold 0 0 none) again ((c .before .before .before .before .before .before .before .before .before .before .args) .c) ((c .before .before .before .before .before .before .before .before .before .before .args) .nodes .now) ((c .before .before .before .before .before .before .before .before .before .before .args) .used) 0 30 ((c .before .before .before .before .before .before .before .before .before .before .pre) .formed) (omega arith) ((c .before .before .put) .ensures) named (name-says ((c .before .before .before .before .before .before .before .before .before .before .args) .stream .now) (ranks k) 0 (readers ((c .before .before .before .before .before .before .before .before .before .before .args) .stream .now) (ranks k) h) (hold 0 0 none) again ((c .before .before .before .before .before .before .before .before .before .before .args) .c) ((sym ((c .before .before .before .before .before .before .before .expect-name) .ensures)) ∙ (c .before .before .before .before .before .t) .given .1)) (took-name ((c .before .before .before .before .before .before .before .before .before .before .args) .stream .now) ((c .before .before .before .before .before .before .before .before .before .before .args) .c) ((sym ((c .before .before .before .before .before .before .before .expect-name) .ensures)) ∙ (c .before .before .before .before .before .t) .given .1))
+returns-2 c = λ k h. leaf-after ((c .before .before .before .before .before .before .before .before .before .before .args) .stream .now) (ranks k) 0 (readers ((c .before .before .before .before .before .before .before .before .before .before .args) .stream .now) (ranks k) h) (hold 0 0 none) again ((c .before .before .before .before .before .before .before .before .before .before .args) .c) ((c .before .before .before .before .before .before .before .before .before .before .args) .nodes .now) ((c .before .before .before .before .before .before .before .before .before .before .args) .used) 0 30 (refl, refl, refl) ((c .before .before .before .before .before .before .before .before .before .before .pre) .formed) (omega arith) ((c .before .before .put) .ensures) named (name-says ((c .before .before .before .before .before .before .before .before .before .before .args) .stream .now) (ranks k) 0 (readers ((c .before .before .before .before .before .before .before .before .before .before .args) .stream .now) (ranks k) h) (hold 0 0 none) again ((c .before .before .before .before .before .before .before .before .before .before .args) .c) ((sym ((c .before .before .before .before .before .before .before .expect-name) .ensures)) ∙ (c .before .before .before .before .before .t) .given .1)) (took-name ((c .before .before .before .before .before .before .before .before .before .before .args) .stream .now) ((c .before .before .before .before .before .before .before .before .before .before .args) .c) ((sym ((c .before .before .before .before .before .before .before .expect-name) .ensures)) ∙ (c .before .before .before .before .before .t) .given .1))
 
 pub name-spec : {M : Type 1} → statement M
 name-spec =

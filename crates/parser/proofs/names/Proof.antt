@@ -19,8 +19,8 @@ use Rattle.grammar.specs.Productions.{nameleaf}
 use Rattle.parser.specs.Contract.{says, under}
 use Rattle.parser.specs.Parts as P
 use Rattle.stream.proofs.Words.{few}
-use Rattle.parser.proofs.Steps.{took-next, check-in, check-out, check-place}
-use Rattle.parser.proofs.Kit.{kept, revalue, looked, weighs, Going, begin, going-length, fails, ends, turns, stop, past, both}
+use Rattle.parser.proofs.Steps.{took-next, check-in, check-out, check-place, check-note}
+use Rattle.parser.proofs.Kit.{kept, revalue, renoted, looked, weighs, Going, begin, going-length, fails, ends, turns, stop, past, both}
 use Rattle.parser.proofs.Tokens.{ready-after, any-fail, any-fine}
 use Rattle.parser.proofs.Around.{looping}
 use Rattle.parser.proofs.names.Statement.{statement}
@@ -32,7 +32,7 @@ use Rattle.stream.proofs.reader.check_ahead.Reads as check-ahead-reads
 use Rattle.stream.proofs.reader.take_next.Reads as take-next-reads
 
 abbrev Inv-loop : tie.InvT-loop
-Inv-loop stream nodes₀ used at₀ u₀ n₀ nodes at u n = Formed stream × (at .place < records stream) × (u ≤ 4 * at .place + 0) × (n + 2 * at₀ .place ≤ 2 * at .place) × ((k : Ranking) (h : ℕ) → Going stream (at₀ .place) used 0 nodes₀ nodes (says stream k h P.names at₀) (under stream k 0 h 0 P.names) at u n)
+Inv-loop stream nodes₀ used at₀ u₀ n₀ nodes at u n = Formed stream × (at .place < records stream) × (u ≤ 4 * at .place + 0) × (n + 2 * at₀ .place ≤ 2 * at .place) × ((k : Ranking) (h : ℕ) → Going stream (at₀ .note) (at₀ .place) used 0 nodes₀ nodes (says stream k h P.names at₀) (under stream k 0 h 0 P.names) at u n)
 
 abbrev μ-loop : tie.MeasureT-loop
 μ-loop stream nodes₀ used at₀ u₀ n₀ nodes at u n = records stream - at .place
@@ -52,7 +52,7 @@ same-length c = going-length (((c .before .before .before .loop) .inv) .4 Crate 
 -- src/lib.rt:116:13
 returns : tie.Need-returns Inv-loop μ-loop
 unfolding read
-returns c = λ k h. (revalue (omega arith) (ends (((c .before .before .before .loop) .inv) .4 k h) (looked _ ((c .before .before .before .loop) .u) 0 ((c .before .before .before .loop) .at) (((c .before .before .check-ahead) .result) .cursor) (looping ((c .before .before .before .before .before .before .args) .stream .now) k 0 h 0 (on check (48 ∷ []) ((any ⨾ nameleaf ⨾ plus 1) ⨾ again′) empty) refl ((c .before .before .before .loop) .at) (((c .before .before .before .loop) .inv) .1) ∙ check-out ((c .before .before .before .before .before .before .args) .stream .now) (ranks k) 0 (readers ((c .before .before .before .before .before .before .args) .stream .now) (ranks k) h) (hold 0 0 none) (under ((c .before .before .before .before .before .before .args) .stream .now) k 0 h 0 (iter (on check (48 ∷ []) ((any ⨾ nameleaf ⨾ plus 1) ⨾ again′) empty))) ((c .before .before .before .loop) .at) 48 ((any ⨾ nameleaf ⨾ plus 1) ⨾ again′) empty (λ z. omega arith) ((c .before .before .check-ahead) .ensures) (not-true (((c .before .before .check-ahead) .result) .found) ((c .if1) .taken))) (check-place ((c .before .before .before .before .before .before .args) .stream .now) ((c .before .before .before .loop) .at) 0 48 ((c .before .before .check-ahead) .ensures)) (((c .before .before .before .loop) .inv) .1) (((c .before .before .before .loop) .inv) .2)) (omega arith)), omega (arith, (check-place ((c .before .before .before .before .before .before .args) .stream .now) ((c .before .before .before .loop) .at) 0 48 ((c .before .before .check-ahead) .ensures)), ((c .before .before .before .loop) .inv) .3))
+returns c = λ k h. (revalue (omega arith) (ends (((c .before .before .before .loop) .inv) .4 k h) (looked _ ((c .before .before .before .loop) .u) 0 ((c .before .before .before .loop) .at) (((c .before .before .check-ahead) .result) .cursor) (looping ((c .before .before .before .before .before .before .args) .stream .now) k 0 h 0 (on check (48 ∷ []) ((any ⨾ nameleaf ⨾ plus 1) ⨾ again′) empty) refl ((c .before .before .before .loop) .at) (((c .before .before .before .loop) .inv) .1) ∙ check-out ((c .before .before .before .before .before .before .args) .stream .now) (ranks k) 0 (readers ((c .before .before .before .before .before .before .args) .stream .now) (ranks k) h) (hold 0 0 none) (under ((c .before .before .before .before .before .before .args) .stream .now) k 0 h 0 (iter (on check (48 ∷ []) ((any ⨾ nameleaf ⨾ plus 1) ⨾ again′) empty))) ((c .before .before .before .loop) .at) 48 ((any ⨾ nameleaf ⨾ plus 1) ⨾ again′) empty (λ z. omega arith) ((c .before .before .check-ahead) .ensures) (not-true (((c .before .before .check-ahead) .result) .found) ((c .if1) .taken))) (check-place ((c .before .before .before .before .before .before .args) .stream .now) ((c .before .before .before .loop) .at) 0 48 ((c .before .before .check-ahead) .ensures)) (check-note ((c .before .before .before .before .before .before .args) .stream .now) ((c .before .before .before .loop) .at) 0 48 ((c .before .before .check-ahead) .ensures)) (((c .before .before .before .loop) .inv) .1) (((c .before .before .before .loop) .inv) .2)) (omega arith)), omega (arith, (check-place ((c .before .before .before .before .before .before .args) .stream .now) ((c .before .before .before .loop) .at) 0 48 ((c .before .before .check-ahead) .ensures)), ((c .before .before .before .loop) .inv) .3))
 
 -- src/lib.rt:118:23
 take-next-requires : tie.Need-take-next-requires Inv-loop μ-loop
@@ -102,7 +102,7 @@ loop-again c =
       omega (arith, z .later, (took-next ((c .before .before .before .before .before .before .before .before .before .before .before .before .before .before .before .before .before .args) .stream .now) (((c .before .before .before .before .before .before .before .before .before .before .before .before .before .check-ahead) .result) .cursor) ((sym ((c .before .before .before .before .before .before .before .before .before .before .take-next) .ensures)) ∙ (c .before .before .before .before .before .before .before .before .e) .given .1)) .place, (check-place ((c .before .before .before .before .before .before .before .before .before .before .before .before .before .before .before .before .before .args) .stream .now) ((c .before .before .before .before .before .before .before .before .before .before .before .before .before .before .loop) .at) 0 48 ((c .before .before .before .before .before .before .before .before .before .before .before .before .before .check-ahead) .ensures)), ((c .before .before .before .before .before .before .before .before .before .before .before .before .before .before .loop) .inv) .3),
       λ k h.
           let f2 = rw ((c .before .f) .given .1) at ((c .before .before .before .before .before .name) .ensures k h) in
-          let f1 = any-fine ((c .before .before .before .before .before .before .before .before .before .before .before .before .before .before .before .before .before .args) .stream .now) (ranks k) 0 (readers ((c .before .before .before .before .before .before .before .before .before .before .before .before .before .before .before .before .before .args) .stream .now) (ranks k) h) (hold 0 0 none) (under ((c .before .before .before .before .before .before .before .before .before .before .before .before .before .before .before .before .before .args) .stream .now) k 0 h 0 (iter (on check (48 ∷ []) ((any ⨾ nameleaf ⨾ plus 1) ⨾ again′) empty))) (((c .before .before .before .before .before .before .before .before .before .before .before .before .before .check-ahead) .result) .cursor) ((c .before .before .before .before .before .before .before .before .before .before .before .before .before .before .loop) .nodes) ((c .before .before .before .before .before .before .before .before .before .before .before .before .before .before .loop) .u) 0 (((c .before .before .before .before .before .before .before .before .before .before .before .before .before .before .loop) .inv) .0) (omega (arith, ((c .before .before .before .before .before .before .before .before .before .before .before .before .before .before .loop) .inv) .2, (check-place ((c .before .before .before .before .before .before .before .before .before .before .before .before .before .before .before .before .before .args) .stream .now) ((c .before .before .before .before .before .before .before .before .before .before .before .before .before .before .loop) .at) 0 48 ((c .before .before .before .before .before .before .before .before .before .before .before .before .before .check-ahead) .ensures)))) ((sym ((c .before .before .before .before .before .before .before .before .before .before .take-next) .ensures)) ∙ (c .before .before .before .before .before .before .before .before .e) .given .1) in
+          let f1 = renoted (check-note ((c .before .before .before .before .before .before .before .before .before .before .before .before .before .before .before .before .before .args) .stream .now) ((c .before .before .before .before .before .before .before .before .before .before .before .before .before .before .loop) .at) 0 48 ((c .before .before .before .before .before .before .before .before .before .before .before .before .before .check-ahead) .ensures)) (any-fine ((c .before .before .before .before .before .before .before .before .before .before .before .before .before .before .before .before .before .args) .stream .now) (ranks k) 0 (readers ((c .before .before .before .before .before .before .before .before .before .before .before .before .before .before .before .before .before .args) .stream .now) (ranks k) h) (hold 0 0 none) (under ((c .before .before .before .before .before .before .before .before .before .before .before .before .before .before .before .before .before .args) .stream .now) k 0 h 0 (iter (on check (48 ∷ []) ((any ⨾ nameleaf ⨾ plus 1) ⨾ again′) empty))) (((c .before .before .before .before .before .before .before .before .before .before .before .before .before .check-ahead) .result) .cursor) ((c .before .before .before .before .before .before .before .before .before .before .before .before .before .before .loop) .nodes) ((c .before .before .before .before .before .before .before .before .before .before .before .before .before .before .loop) .u) 0 (((c .before .before .before .before .before .before .before .before .before .before .before .before .before .before .loop) .inv) .0) (omega (arith, ((c .before .before .before .before .before .before .before .before .before .before .before .before .before .before .loop) .inv) .2, (check-place ((c .before .before .before .before .before .before .before .before .before .before .before .before .before .before .before .before .before .args) .stream .now) ((c .before .before .before .before .before .before .before .before .before .before .before .before .before .before .loop) .at) 0 48 ((c .before .before .before .before .before .before .before .before .before .before .before .before .before .check-ahead) .ensures)))) ((sym ((c .before .before .before .before .before .before .before .before .before .before .take-next) .ensures)) ∙ (c .before .before .before .before .before .before .before .before .e) .given .1)) in
           turns (((c .before .before .before .before .before .before .before .before .before .before .before .before .before .before .loop) .inv) .4 k h) (looping ((c .before .before .before .before .before .before .before .before .before .before .before .before .before .before .before .before .before .args) .stream .now) k 0 h 0 (on check (48 ∷ []) ((any ⨾ nameleaf ⨾ plus 1) ⨾ again′) empty) refl ((c .before .before .before .before .before .before .before .before .before .before .before .before .before .before .loop) .at) (((c .before .before .before .before .before .before .before .before .before .before .before .before .before .before .loop) .inv) .1) ∙ check-in ((c .before .before .before .before .before .before .before .before .before .before .before .before .before .before .before .before .before .args) .stream .now) (ranks k) 0 (readers ((c .before .before .before .before .before .before .before .before .before .before .before .before .before .before .before .before .before .args) .stream .now) (ranks k) h) (hold 0 0 none) (under ((c .before .before .before .before .before .before .before .before .before .before .before .before .before .before .before .before .before .args) .stream .now) k 0 h 0 (iter (on check (48 ∷ []) ((any ⨾ nameleaf ⨾ plus 1) ⨾ again′) empty))) ((c .before .before .before .before .before .before .before .before .before .before .before .before .before .before .loop) .at) 48 ((any ⨾ nameleaf ⨾ plus 1) ⨾ again′) empty (λ z. omega arith) ((c .before .before .before .before .before .before .before .before .before .before .before .before .before .check-ahead) .ensures) (not-false (((c .before .before .before .before .before .before .before .before .before .before .before .before .before .check-ahead) .result) .found) ((c .before .before .before .before .before .before .before .before .before .before .before .if1) .left))) (both _ f1 (both _ f2 (weighs _ _ 0 1 _ (f2 .at) (f2 .room)) (omega arith)) (omega arith)) (omega (arith, (check-place ((c .before .before .before .before .before .before .before .before .before .before .before .before .before .before .before .before .before .args) .stream .now) ((c .before .before .before .before .before .before .before .before .before .before .before .before .before .before .loop) .at) 0 48 ((c .before .before .before .before .before .before .before .before .before .before .before .before .before .check-ahead) .ensures)))) (f2 .room),
     )
 
@@ -119,7 +119,7 @@ returns-3 : tie.Need-returns-3 Inv-loop μ-loop
 unfolding read
 returns-3 c =
     λ k h.
-    let f1 = any-fine ((c .before .before .before .before .before .before .before .before .before .before .before .before .before .before .before .before .before .args) .stream .now) (ranks k) 0 (readers ((c .before .before .before .before .before .before .before .before .before .before .before .before .before .before .before .before .before .args) .stream .now) (ranks k) h) (hold 0 0 none) (under ((c .before .before .before .before .before .before .before .before .before .before .before .before .before .before .before .before .before .args) .stream .now) k 0 h 0 (iter (on check (48 ∷ []) ((any ⨾ nameleaf ⨾ plus 1) ⨾ again′) empty))) (((c .before .before .before .before .before .before .before .before .before .before .before .before .before .check-ahead) .result) .cursor) ((c .before .before .before .before .before .before .before .before .before .before .before .before .before .before .loop) .nodes) ((c .before .before .before .before .before .before .before .before .before .before .before .before .before .before .loop) .u) 0 (((c .before .before .before .before .before .before .before .before .before .before .before .before .before .before .loop) .inv) .0) (omega (arith, ((c .before .before .before .before .before .before .before .before .before .before .before .before .before .before .loop) .inv) .2, (check-place ((c .before .before .before .before .before .before .before .before .before .before .before .before .before .before .before .before .before .args) .stream .now) ((c .before .before .before .before .before .before .before .before .before .before .before .before .before .before .loop) .at) 0 48 ((c .before .before .before .before .before .before .before .before .before .before .before .before .before .check-ahead) .ensures)))) ((sym ((c .before .before .before .before .before .before .before .before .before .before .take-next) .ensures)) ∙ (c .before .before .before .before .before .before .before .before .e) .given .1) in
+    let f1 = renoted (check-note ((c .before .before .before .before .before .before .before .before .before .before .before .before .before .before .before .before .before .args) .stream .now) ((c .before .before .before .before .before .before .before .before .before .before .before .before .before .before .loop) .at) 0 48 ((c .before .before .before .before .before .before .before .before .before .before .before .before .before .check-ahead) .ensures)) (any-fine ((c .before .before .before .before .before .before .before .before .before .before .before .before .before .before .before .before .before .args) .stream .now) (ranks k) 0 (readers ((c .before .before .before .before .before .before .before .before .before .before .before .before .before .before .before .before .before .args) .stream .now) (ranks k) h) (hold 0 0 none) (under ((c .before .before .before .before .before .before .before .before .before .before .before .before .before .before .before .before .before .args) .stream .now) k 0 h 0 (iter (on check (48 ∷ []) ((any ⨾ nameleaf ⨾ plus 1) ⨾ again′) empty))) (((c .before .before .before .before .before .before .before .before .before .before .before .before .before .check-ahead) .result) .cursor) ((c .before .before .before .before .before .before .before .before .before .before .before .before .before .before .loop) .nodes) ((c .before .before .before .before .before .before .before .before .before .before .before .before .before .before .loop) .u) 0 (((c .before .before .before .before .before .before .before .before .before .before .before .before .before .before .loop) .inv) .0) (omega (arith, ((c .before .before .before .before .before .before .before .before .before .before .before .before .before .before .loop) .inv) .2, (check-place ((c .before .before .before .before .before .before .before .before .before .before .before .before .before .before .before .before .before .args) .stream .now) ((c .before .before .before .before .before .before .before .before .before .before .before .before .before .before .loop) .at) 0 48 ((c .before .before .before .before .before .before .before .before .before .before .before .before .before .check-ahead) .ensures)))) ((sym ((c .before .before .before .before .before .before .before .before .before .before .take-next) .ensures)) ∙ (c .before .before .before .before .before .before .before .before .e) .given .1)) in
     fails (((c .before .before .before .before .before .before .before .before .before .before .before .before .before .before .loop) .inv) .4 k h) ((looping ((c .before .before .before .before .before .before .before .before .before .before .before .before .before .before .before .before .before .args) .stream .now) k 0 h 0 (on check (48 ∷ []) ((any ⨾ nameleaf ⨾ plus 1) ⨾ again′) empty) refl ((c .before .before .before .before .before .before .before .before .before .before .before .before .before .before .loop) .at) (((c .before .before .before .before .before .before .before .before .before .before .before .before .before .before .loop) .inv) .1) ∙ check-in ((c .before .before .before .before .before .before .before .before .before .before .before .before .before .before .before .before .before .args) .stream .now) (ranks k) 0 (readers ((c .before .before .before .before .before .before .before .before .before .before .before .before .before .before .before .before .before .args) .stream .now) (ranks k) h) (hold 0 0 none) (under ((c .before .before .before .before .before .before .before .before .before .before .before .before .before .before .before .before .before .args) .stream .now) k 0 h 0 (iter (on check (48 ∷ []) ((any ⨾ nameleaf ⨾ plus 1) ⨾ again′) empty))) ((c .before .before .before .before .before .before .before .before .before .before .before .before .before .before .loop) .at) 48 ((any ⨾ nameleaf ⨾ plus 1) ⨾ again′) empty (λ z. omega arith) ((c .before .before .before .before .before .before .before .before .before .before .before .before .before .check-ahead) .ensures) (not-false (((c .before .before .before .before .before .before .before .before .before .before .before .before .before .check-ahead) .result) .found) ((c .before .before .before .before .before .before .before .before .before .before .before .if1) .left))) ∙ stop _ (past _ f1 (stop _ (rw ((c .before .e3) .given .1) at ((c .before .before .before .before .before .name) .ensures k h)))))
 
 pub names-spec : {M : Type 1} → statement M

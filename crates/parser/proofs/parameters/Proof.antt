@@ -17,8 +17,8 @@ use Rattle.grammar.specs.Term.{empty, any, leaf, plus, _⨾_, refuse}
 use Rattle.grammar.specs.Term.{again as again′}
 use Rattle.parser.specs.Contract.{says, under}
 use Rattle.stream.proofs.Words.{few, token-next}
-use Rattle.parser.proofs.Steps.{took-next, check-in, check-out, check-place}
-use Rattle.parser.proofs.Kit.{kept, lower, alter, revalue, looked, weighs, Going, begin, revalue-going, going-length, fails, ends, goes, stop, both}
+use Rattle.parser.proofs.Steps.{took-next, check-in, check-out, check-place, check-note}
+use Rattle.parser.proofs.Kit.{kept, lower, alter, revalue, renoted, looked, weighs, Going, begin, revalue-going, going-length, fails, ends, goes, stop, both}
 use Rattle.parser.proofs.Tokens.{paid, any-fail, any-fine, leaf-fine}
 use Rattle.parser.proofs.Looks.{take-fails, take-gets, take-takes, refused, by-none, by-kind, by-others}
 use Rattle.parser.proofs.Around.{looping}
@@ -34,7 +34,7 @@ use Rattle.stream.proofs.reader.take_next.Reads as take-next-reads
 use Rattle.tree.proofs.put.Reads as put-reads
 
 abbrev Inv-loop : tie.InvT-loop
-Inv-loop stream nodes₀ used at₀ u₀ n₀ nodes at u n = Formed stream × (at .place < records stream) × (u ≤ 4 * at .place + 0) × (n + 2 * at₀ .place ≤ 2 * at .place) × ((k : Ranking) (h : ℕ) → Going stream (at₀ .place) used 0 nodes₀ nodes (says stream k h parlist at₀) (under stream k 0 h 0 parlist) at u n)
+Inv-loop stream nodes₀ used at₀ u₀ n₀ nodes at u n = Formed stream × (at .place < records stream) × (u ≤ 4 * at .place + 0) × (n + 2 * at₀ .place ≤ 2 * at .place) × ((k : Ranking) (h : ℕ) → Going stream (at₀ .note) (at₀ .place) used 0 nodes₀ nodes (says stream k h parlist at₀) (under stream k 0 h 0 parlist) at u n)
 
 abbrev μ-loop : tie.MeasureT-loop
 μ-loop stream nodes₀ used at₀ u₀ n₀ nodes at u n = records stream - at .place
@@ -120,12 +120,12 @@ unfolding read parlist
 returns-4 c =
     λ k h.
     let f1 = any-fine ((c .before .before .before .before .before .before .before .before .before .before .before .before .before .before .before .before .before .before .args) .stream .now) (ranks k) 0 (readers ((c .before .before .before .before .before .before .before .before .before .before .before .before .before .before .before .before .before .before .args) .stream .now) (ranks k) h) (hold 0 0 none) (under ((c .before .before .before .before .before .before .before .before .before .before .before .before .before .before .before .before .before .before .args) .stream .now) k 0 h 0 parlist) (readAhead ((c .before .before .before .before .before .before .before .before .before .before .before .before .before .before .before .before .before .before .args) .stream .now) ((c .before .before .before .before .before .before .before .before .before .before .before .before .before .before .before .loop) .at) 1) ((c .before .before .before .before .before .before .before .before .before .before .before .before .before .before .before .loop) .nodes) ((c .before .before .before .before .before .before .before .before .before .before .before .before .before .before .before .loop) .u) 0 (((c .before .before .before .before .before .before .before .before .before .before .before .before .before .before .before .loop) .inv) .0) (omega (arith, ((c .before .before .before .before .before .before .before .before .before .before .before .before .before .before .before .loop) .inv) .2)) (take-takes ((c .before .before .before .before .before .before .before .before .before .before .before .before .before .before .before .before .before .before .args) .stream .now) ((c .before .before .before .before .before .before .before .before .before .before .before .before .before .before .before .loop) .at) ((sym ((c .before .before .before .before .before .before .before .before .before .before .before .before .before .before .take-next) .ensures)) ∙ (c .before .before .before .before .before .before .before .before .before .before .before .before .t) .given .1)) in
-    let f2 = leaf-fine ((c .before .before .before .before .before .before .before .before .before .before .before .before .before .before .before .before .before .before .args) .stream .now) (ranks k) 0 (readers ((c .before .before .before .before .before .before .before .before .before .before .before .before .before .before .before .before .before .before .args) .stream .now) (ranks k) h) (hold 0 0 none) (under ((c .before .before .before .before .before .before .before .before .before .before .before .before .before .before .before .before .before .before .args) .stream .now) k 0 h 0 parlist) ((c .before .before .before .before .before .before .before .before .before .before .before .before .t) .given .0 .1 .0) ((c .before .before .before .before .before .before .before .before .before .before .before .before .before .before .before .loop) .nodes) ((c .before .before .before .before .before .before .before .before .before .before .before .before .before .before .before .loop) .u) 0 (paid (took-next ((c .before .before .before .before .before .before .before .before .before .before .before .before .before .before .before .before .before .before .args) .stream .now) ((c .before .before .before .before .before .before .before .before .before .before .before .before .before .before .before .loop) .at) ((sym ((c .before .before .before .before .before .before .before .before .before .before .before .before .before .before .take-next) .ensures)) ∙ (c .before .before .before .before .before .before .before .before .before .before .before .before .t) .given .1))) (f1 .at) 30 refl (omega (arith, (took-next ((c .before .before .before .before .before .before .before .before .before .before .before .before .before .before .before .before .before .before .args) .stream .now) ((c .before .before .before .before .before .before .before .before .before .before .before .before .before .before .before .loop) .at) ((sym ((c .before .before .before .before .before .before .before .before .before .before .before .before .before .before .take-next) .ensures)) ∙ (c .before .before .before .before .before .before .before .before .before .before .before .before .t) .given .1)) .place, ((c .before .before .before .before .before .before .before .before .before .before .before .before .before .before .before .loop) .inv) .2)) ((c .before .before .before .before .before .put) .ensures) in
+    let f2 = leaf-fine ((c .before .before .before .before .before .before .before .before .before .before .before .before .before .before .before .before .before .before .args) .stream .now) (ranks k) 0 (readers ((c .before .before .before .before .before .before .before .before .before .before .before .before .before .before .before .before .before .before .args) .stream .now) (ranks k) h) (hold 0 0 none) (under ((c .before .before .before .before .before .before .before .before .before .before .before .before .before .before .before .before .before .before .args) .stream .now) k 0 h 0 parlist) ((c .before .before .before .before .before .before .before .before .before .before .before .before .t) .given .0 .1 .0) ((c .before .before .before .before .before .before .before .before .before .before .before .before .before .before .before .loop) .nodes) ((c .before .before .before .before .before .before .before .before .before .before .before .before .before .before .before .loop) .u) 0 (paid (took-next ((c .before .before .before .before .before .before .before .before .before .before .before .before .before .before .before .before .before .before .args) .stream .now) ((c .before .before .before .before .before .before .before .before .before .before .before .before .before .before .before .loop) .at) ((sym ((c .before .before .before .before .before .before .before .before .before .before .before .before .before .before .take-next) .ensures)) ∙ (c .before .before .before .before .before .before .before .before .before .before .before .before .t) .given .1))) (f1 .at) 30 (refl, refl, refl) refl (omega (arith, (took-next ((c .before .before .before .before .before .before .before .before .before .before .before .before .before .before .before .before .before .before .args) .stream .now) ((c .before .before .before .before .before .before .before .before .before .before .before .before .before .before .before .loop) .at) ((sym ((c .before .before .before .before .before .before .before .before .before .before .before .before .before .before .take-next) .ensures)) ∙ (c .before .before .before .before .before .before .before .before .before .before .before .before .t) .given .1)) .place, ((c .before .before .before .before .before .before .before .before .before .before .before .before .before .before .before .loop) .inv) .2)) ((c .before .before .before .before .before .put) .ensures) in
     let w = weighs {s = ((c .before .before .before .before .before .before .before .before .before .before .before .before .before .before .before .before .before .before .args) .stream .now)} ((c .before .before .before .before .before .put) .last .0) (((c .before .before .before .before .before .before .before .before .before .before .before .before .before .before .before .loop) .u) + 1) 0 2 ((c .before .before .before .before .before .before .before .before .before .before .before .before .t) .given .0 .1 .0) (f1 .at) (f2 .room) in
     let g1 = goes (((c .before .before .before .before .before .before .before .before .before .before .before .before .before .before .before .loop) .inv) .4 k h) (read ((c .before .before .before .before .before .before .before .before .before .before .before .before .before .before .before .before .before .before .args) .stream .now) (ranks k) 0 (readers ((c .before .before .before .before .before .before .before .before .before .before .before .before .before .before .before .before .before .before .args) .stream .now) (ranks k) h) (hold 0 0 none) (leaf 30 ⨾ plus 2 ⨾ (opt check (48 ∷ []) (any ⨾ again′))) (under ((c .before .before .before .before .before .before .before .before .before .before .before .before .before .before .before .before .before .before .args) .stream .now) k 0 h 0 parlist)) (looping ((c .before .before .before .before .before .before .before .before .before .before .before .before .before .before .before .before .before .before .args) .stream .now) k 0 h 0 (58 ⇒ (any ⨾ leaf 30 ⨾ plus 2 ⨾ (opt check (48 ∷ []) (any ⨾ again′))) ∣ 36 ⇒ (any ⨾ plus 1) ∣ refuse 63) refl ((c .before .before .before .before .before .before .before .before .before .before .before .before .before .before .before .loop) .at) (((c .before .before .before .before .before .before .before .before .before .before .before .before .before .before .before .loop) .inv) .1) ∙ by-kind ((c .before .before .before .before .before .before .before .before .before .before .before .before .before .before .before .before .before .before .args) .stream .now) (ranks k) 0 (readers ((c .before .before .before .before .before .before .before .before .before .before .before .before .before .before .before .before .before .before .args) .stream .now) (ranks k) h) (hold 0 0 none) (under ((c .before .before .before .before .before .before .before .before .before .before .before .before .before .before .before .before .before .before .args) .stream .now) k 0 h 0 parlist) ((c .before .before .before .before .before .before .before .before .before .before .before .before .before .before .before .loop) .at) (58, (any ⨾ leaf 30 ⨾ plus 2 ⨾ (opt check (48 ∷ []) (any ⨾ again′)))) ((36, (any ⨾ plus 1)) ∷ []) (refuse 63) (take-gets ((c .before .before .before .before .before .before .before .before .before .before .before .before .before .before .before .before .before .before .args) .stream .now) ((c .before .before .before .before .before .before .before .before .before .before .before .before .before .before .before .loop) .at) ((sym ((c .before .before .before .before .before .before .before .before .before .before .before .before .before .before .take-next) .ensures)) ∙ (c .before .before .before .before .before .before .before .before .before .before .before .before .t) .given .1)) ((c .before .before .before .before .before .before .before .if2) .left)) f1 (omega arith) in
     let g2 = goes g1 (read ((c .before .before .before .before .before .before .before .before .before .before .before .before .before .before .before .before .before .before .args) .stream .now) (ranks k) 0 (readers ((c .before .before .before .before .before .before .before .before .before .before .before .before .before .before .before .before .before .before .args) .stream .now) (ranks k) h) (hold 0 0 none) (plus 2 ⨾ (opt check (48 ∷ []) (any ⨾ again′))) (under ((c .before .before .before .before .before .before .before .before .before .before .before .before .before .before .before .before .before .before .args) .stream .now) k 0 h 0 parlist)) refl f2 (omega arith) in
     let g3 = goes g2 (read ((c .before .before .before .before .before .before .before .before .before .before .before .before .before .before .before .before .before .before .args) .stream .now) (ranks k) 0 (readers ((c .before .before .before .before .before .before .before .before .before .before .before .before .before .before .before .before .before .before .args) .stream .now) (ranks k) h) (hold 0 0 none) (opt check (48 ∷ []) (any ⨾ again′)) (under ((c .before .before .before .before .before .before .before .before .before .before .before .before .before .before .before .before .before .before .args) .stream .now) k 0 h 0 parlist)) refl w (omega arith) in
-    let f4 = looked {s = ((c .before .before .before .before .before .before .before .before .before .before .before .before .before .before .before .before .before .before .args) .stream .now)} ((c .before .before .before .before .before .put) .last .0) (((c .before .before .before .before .before .before .before .before .before .before .before .before .before .before .before .loop) .u) + 1) 0 ((c .before .before .before .before .before .before .before .before .before .before .before .before .t) .given .0 .1 .0) (((c .before .before .check-ahead) .result) .cursor) (check-out ((c .before .before .before .before .before .before .before .before .before .before .before .before .before .before .before .before .before .before .args) .stream .now) (ranks k) 0 (readers ((c .before .before .before .before .before .before .before .before .before .before .before .before .before .before .before .before .before .before .args) .stream .now) (ranks k) h) (hold 0 0 none) (under ((c .before .before .before .before .before .before .before .before .before .before .before .before .before .before .before .before .before .before .args) .stream .now) k 0 h 0 parlist) ((c .before .before .before .before .before .before .before .before .before .before .before .before .t) .given .0 .1 .0) 48 (any ⨾ again′) empty (λ z. omega arith) ((c .before .before .check-ahead) .ensures) (not-true (((c .before .before .check-ahead) .result) .found) ((c .if3) .taken))) (check-place ((c .before .before .before .before .before .before .before .before .before .before .before .before .before .before .before .before .before .before .args) .stream .now) ((c .before .before .before .before .before .before .before .before .before .before .before .before .t) .given .0 .1 .0) 0 48 ((c .before .before .check-ahead) .ensures)) (f1 .at) (f2 .room) in
+    let f4 = looked {s = ((c .before .before .before .before .before .before .before .before .before .before .before .before .before .before .before .before .before .before .args) .stream .now)} ((c .before .before .before .before .before .put) .last .0) (((c .before .before .before .before .before .before .before .before .before .before .before .before .before .before .before .loop) .u) + 1) 0 ((c .before .before .before .before .before .before .before .before .before .before .before .before .t) .given .0 .1 .0) (((c .before .before .check-ahead) .result) .cursor) (check-out ((c .before .before .before .before .before .before .before .before .before .before .before .before .before .before .before .before .before .before .args) .stream .now) (ranks k) 0 (readers ((c .before .before .before .before .before .before .before .before .before .before .before .before .before .before .before .before .before .before .args) .stream .now) (ranks k) h) (hold 0 0 none) (under ((c .before .before .before .before .before .before .before .before .before .before .before .before .before .before .before .before .before .before .args) .stream .now) k 0 h 0 parlist) ((c .before .before .before .before .before .before .before .before .before .before .before .before .t) .given .0 .1 .0) 48 (any ⨾ again′) empty (λ z. omega arith) ((c .before .before .check-ahead) .ensures) (not-true (((c .before .before .check-ahead) .result) .found) ((c .if3) .taken))) (check-place ((c .before .before .before .before .before .before .before .before .before .before .before .before .before .before .before .before .before .before .args) .stream .now) ((c .before .before .before .before .before .before .before .before .before .before .before .before .t) .given .0 .1 .0) 0 48 ((c .before .before .check-ahead) .ensures)) (check-note ((c .before .before .before .before .before .before .before .before .before .before .before .before .before .before .before .before .before .before .args) .stream .now) ((c .before .before .before .before .before .before .before .before .before .before .before .before .t) .given .0 .1 .0) 0 48 ((c .before .before .check-ahead) .ensures)) (f1 .at) (f2 .room) in
     (revalue (omega arith) (lower _ (ends g3 f4 (omega arith)) (omega (arith, ((c .before .before .before .before .before .before .before .before .before .before .before .before .before .before .before .loop) .inv) .4 k h .later, (took-next ((c .before .before .before .before .before .before .before .before .before .before .before .before .before .before .before .before .before .before .args) .stream .now) ((c .before .before .before .before .before .before .before .before .before .before .before .before .before .before .before .loop) .at) ((sym ((c .before .before .before .before .before .before .before .before .before .before .before .before .before .before .take-next) .ensures)) ∙ (c .before .before .before .before .before .before .before .before .before .before .before .before .t) .given .1)) .place, (check-place ((c .before .before .before .before .before .before .before .before .before .before .before .before .before .before .before .before .before .before .args) .stream .now) ((c .before .before .before .before .before .before .before .before .before .before .before .before .t) .given .0 .1 .0) 0 48 ((c .before .before .check-ahead) .ensures))))), omega (arith, (took-next ((c .before .before .before .before .before .before .before .before .before .before .before .before .before .before .before .before .before .before .args) .stream .now) ((c .before .before .before .before .before .before .before .before .before .before .before .before .before .before .before .loop) .at) ((sym ((c .before .before .before .before .before .before .before .before .before .before .before .before .before .before .take-next) .ensures)) ∙ (c .before .before .before .before .before .before .before .before .before .before .before .before .t) .given .1)) .place, (check-place ((c .before .before .before .before .before .before .before .before .before .before .before .before .before .before .before .before .before .before .args) .stream .now) ((c .before .before .before .before .before .before .before .before .before .before .before .before .t) .given .0 .1 .0) 0 48 ((c .before .before .check-ahead) .ensures)), ((c .before .before .before .before .before .before .before .before .before .before .before .before .before .before .before .loop) .inv) .3))
 
 -- src/lib.rt:181:23
@@ -146,7 +146,7 @@ unfolding read parlist
 returns-5 c =
     λ k h.
     let f1 = any-fine ((c .before .before .before .before .before .before .before .before .before .before .before .before .before .before .before .before .before .before .before .before .before .before .args) .stream .now) (ranks k) 0 (readers ((c .before .before .before .before .before .before .before .before .before .before .before .before .before .before .before .before .before .before .before .before .before .before .args) .stream .now) (ranks k) h) (hold 0 0 none) (under ((c .before .before .before .before .before .before .before .before .before .before .before .before .before .before .before .before .before .before .before .before .before .before .args) .stream .now) k 0 h 0 parlist) (readAhead ((c .before .before .before .before .before .before .before .before .before .before .before .before .before .before .before .before .before .before .before .before .before .before .args) .stream .now) ((c .before .before .before .before .before .before .before .before .before .before .before .before .before .before .before .before .before .before .before .loop) .at) 1) ((c .before .before .before .before .before .before .before .before .before .before .before .before .before .before .before .before .before .before .before .loop) .nodes) ((c .before .before .before .before .before .before .before .before .before .before .before .before .before .before .before .before .before .before .before .loop) .u) 0 (((c .before .before .before .before .before .before .before .before .before .before .before .before .before .before .before .before .before .before .before .loop) .inv) .0) (omega (arith, ((c .before .before .before .before .before .before .before .before .before .before .before .before .before .before .before .before .before .before .before .loop) .inv) .2)) (take-takes ((c .before .before .before .before .before .before .before .before .before .before .before .before .before .before .before .before .before .before .before .before .before .before .args) .stream .now) ((c .before .before .before .before .before .before .before .before .before .before .before .before .before .before .before .before .before .before .before .loop) .at) ((sym ((c .before .before .before .before .before .before .before .before .before .before .before .before .before .before .before .before .before .before .take-next) .ensures)) ∙ (c .before .before .before .before .before .before .before .before .before .before .before .before .before .before .before .before .t) .given .1)) in
-    let f2 = leaf-fine ((c .before .before .before .before .before .before .before .before .before .before .before .before .before .before .before .before .before .before .before .before .before .before .args) .stream .now) (ranks k) 0 (readers ((c .before .before .before .before .before .before .before .before .before .before .before .before .before .before .before .before .before .before .before .before .before .before .args) .stream .now) (ranks k) h) (hold 0 0 none) (under ((c .before .before .before .before .before .before .before .before .before .before .before .before .before .before .before .before .before .before .before .before .before .before .args) .stream .now) k 0 h 0 parlist) ((c .before .before .before .before .before .before .before .before .before .before .before .before .before .before .before .before .t) .given .0 .1 .0) ((c .before .before .before .before .before .before .before .before .before .before .before .before .before .before .before .before .before .before .before .loop) .nodes) ((c .before .before .before .before .before .before .before .before .before .before .before .before .before .before .before .before .before .before .before .loop) .u) 0 (paid (took-next ((c .before .before .before .before .before .before .before .before .before .before .before .before .before .before .before .before .before .before .before .before .before .before .args) .stream .now) ((c .before .before .before .before .before .before .before .before .before .before .before .before .before .before .before .before .before .before .before .loop) .at) ((sym ((c .before .before .before .before .before .before .before .before .before .before .before .before .before .before .before .before .before .before .take-next) .ensures)) ∙ (c .before .before .before .before .before .before .before .before .before .before .before .before .before .before .before .before .t) .given .1))) (f1 .at) 30 refl (omega (arith, (took-next ((c .before .before .before .before .before .before .before .before .before .before .before .before .before .before .before .before .before .before .before .before .before .before .args) .stream .now) ((c .before .before .before .before .before .before .before .before .before .before .before .before .before .before .before .before .before .before .before .loop) .at) ((sym ((c .before .before .before .before .before .before .before .before .before .before .before .before .before .before .before .before .before .before .take-next) .ensures)) ∙ (c .before .before .before .before .before .before .before .before .before .before .before .before .before .before .before .before .t) .given .1)) .place, ((c .before .before .before .before .before .before .before .before .before .before .before .before .before .before .before .before .before .before .before .loop) .inv) .2)) ((c .before .before .before .before .before .before .before .before .before .put) .ensures) in
+    let f2 = leaf-fine ((c .before .before .before .before .before .before .before .before .before .before .before .before .before .before .before .before .before .before .before .before .before .before .args) .stream .now) (ranks k) 0 (readers ((c .before .before .before .before .before .before .before .before .before .before .before .before .before .before .before .before .before .before .before .before .before .before .args) .stream .now) (ranks k) h) (hold 0 0 none) (under ((c .before .before .before .before .before .before .before .before .before .before .before .before .before .before .before .before .before .before .before .before .before .before .args) .stream .now) k 0 h 0 parlist) ((c .before .before .before .before .before .before .before .before .before .before .before .before .before .before .before .before .t) .given .0 .1 .0) ((c .before .before .before .before .before .before .before .before .before .before .before .before .before .before .before .before .before .before .before .loop) .nodes) ((c .before .before .before .before .before .before .before .before .before .before .before .before .before .before .before .before .before .before .before .loop) .u) 0 (paid (took-next ((c .before .before .before .before .before .before .before .before .before .before .before .before .before .before .before .before .before .before .before .before .before .before .args) .stream .now) ((c .before .before .before .before .before .before .before .before .before .before .before .before .before .before .before .before .before .before .before .loop) .at) ((sym ((c .before .before .before .before .before .before .before .before .before .before .before .before .before .before .before .before .before .before .take-next) .ensures)) ∙ (c .before .before .before .before .before .before .before .before .before .before .before .before .before .before .before .before .t) .given .1))) (f1 .at) 30 (refl, refl, refl) refl (omega (arith, (took-next ((c .before .before .before .before .before .before .before .before .before .before .before .before .before .before .before .before .before .before .before .before .before .before .args) .stream .now) ((c .before .before .before .before .before .before .before .before .before .before .before .before .before .before .before .before .before .before .before .loop) .at) ((sym ((c .before .before .before .before .before .before .before .before .before .before .before .before .before .before .before .before .before .before .take-next) .ensures)) ∙ (c .before .before .before .before .before .before .before .before .before .before .before .before .before .before .before .before .t) .given .1)) .place, ((c .before .before .before .before .before .before .before .before .before .before .before .before .before .before .before .before .before .before .before .loop) .inv) .2)) ((c .before .before .before .before .before .before .before .before .before .put) .ensures) in
     let w = weighs {s = ((c .before .before .before .before .before .before .before .before .before .before .before .before .before .before .before .before .before .before .before .before .before .before .args) .stream .now)} ((c .before .before .before .before .before .before .before .before .before .put) .last .0) (((c .before .before .before .before .before .before .before .before .before .before .before .before .before .before .before .before .before .before .before .loop) .u) + 1) 0 2 ((c .before .before .before .before .before .before .before .before .before .before .before .before .before .before .before .before .t) .given .0 .1 .0) (f1 .at) (f2 .room) in
     let g1 = goes (((c .before .before .before .before .before .before .before .before .before .before .before .before .before .before .before .before .before .before .before .loop) .inv) .4 k h) (read ((c .before .before .before .before .before .before .before .before .before .before .before .before .before .before .before .before .before .before .before .before .before .before .args) .stream .now) (ranks k) 0 (readers ((c .before .before .before .before .before .before .before .before .before .before .before .before .before .before .before .before .before .before .before .before .before .before .args) .stream .now) (ranks k) h) (hold 0 0 none) (leaf 30 ⨾ plus 2 ⨾ (opt check (48 ∷ []) (any ⨾ again′))) (under ((c .before .before .before .before .before .before .before .before .before .before .before .before .before .before .before .before .before .before .before .before .before .before .args) .stream .now) k 0 h 0 parlist)) (looping ((c .before .before .before .before .before .before .before .before .before .before .before .before .before .before .before .before .before .before .before .before .before .before .args) .stream .now) k 0 h 0 (58 ⇒ (any ⨾ leaf 30 ⨾ plus 2 ⨾ (opt check (48 ∷ []) (any ⨾ again′))) ∣ 36 ⇒ (any ⨾ plus 1) ∣ refuse 63) refl ((c .before .before .before .before .before .before .before .before .before .before .before .before .before .before .before .before .before .before .before .loop) .at) (((c .before .before .before .before .before .before .before .before .before .before .before .before .before .before .before .before .before .before .before .loop) .inv) .1) ∙ by-kind ((c .before .before .before .before .before .before .before .before .before .before .before .before .before .before .before .before .before .before .before .before .before .before .args) .stream .now) (ranks k) 0 (readers ((c .before .before .before .before .before .before .before .before .before .before .before .before .before .before .before .before .before .before .before .before .before .before .args) .stream .now) (ranks k) h) (hold 0 0 none) (under ((c .before .before .before .before .before .before .before .before .before .before .before .before .before .before .before .before .before .before .before .before .before .before .args) .stream .now) k 0 h 0 parlist) ((c .before .before .before .before .before .before .before .before .before .before .before .before .before .before .before .before .before .before .before .loop) .at) (58, (any ⨾ leaf 30 ⨾ plus 2 ⨾ (opt check (48 ∷ []) (any ⨾ again′)))) ((36, (any ⨾ plus 1)) ∷ []) (refuse 63) (take-gets ((c .before .before .before .before .before .before .before .before .before .before .before .before .before .before .before .before .before .before .before .before .before .before .args) .stream .now) ((c .before .before .before .before .before .before .before .before .before .before .before .before .before .before .before .before .before .before .before .loop) .at) ((sym ((c .before .before .before .before .before .before .before .before .before .before .before .before .before .before .before .before .before .before .take-next) .ensures)) ∙ (c .before .before .before .before .before .before .before .before .before .before .before .before .before .before .before .before .t) .given .1)) ((c .before .before .before .before .before .before .before .before .before .before .before .if2) .left)) f1 (omega arith) in
     let g2 = goes g1 (read ((c .before .before .before .before .before .before .before .before .before .before .before .before .before .before .before .before .before .before .before .before .before .before .args) .stream .now) (ranks k) 0 (readers ((c .before .before .before .before .before .before .before .before .before .before .before .before .before .before .before .before .before .before .before .before .before .before .args) .stream .now) (ranks k) h) (hold 0 0 none) (plus 2 ⨾ (opt check (48 ∷ []) (any ⨾ again′))) (under ((c .before .before .before .before .before .before .before .before .before .before .before .before .before .before .before .before .before .before .before .before .before .before .args) .stream .now) k 0 h 0 parlist)) refl f2 (omega arith) in
@@ -174,12 +174,12 @@ loop-again c =
       omega (arith, (took-next ((c .before .before .before .before .before .before .before .before .before .before .before .before .before .before .before .before .before .before .before .before .before .before .args) .stream .now) (((c .before .before .before .before .before .before .check-ahead) .result) .cursor) ((sym ((c .before .before .before .take-next2) .ensures)) ∙ (c .before .f) .given .1)) .place, (took-next ((c .before .before .before .before .before .before .before .before .before .before .before .before .before .before .before .before .before .before .before .before .before .before .args) .stream .now) ((c .before .before .before .before .before .before .before .before .before .before .before .before .before .before .before .before .before .before .before .loop) .at) ((sym ((c .before .before .before .before .before .before .before .before .before .before .before .before .before .before .before .before .before .before .take-next) .ensures)) ∙ (c .before .before .before .before .before .before .before .before .before .before .before .before .before .before .before .before .t) .given .1)) .place, (check-place ((c .before .before .before .before .before .before .before .before .before .before .before .before .before .before .before .before .before .before .before .before .before .before .args) .stream .now) ((c .before .before .before .before .before .before .before .before .before .before .before .before .before .before .before .before .t) .given .0 .1 .0) 0 48 ((c .before .before .before .before .before .before .check-ahead) .ensures)), ((c .before .before .before .before .before .before .before .before .before .before .before .before .before .before .before .before .before .before .before .loop) .inv) .3),
       λ k h.
           let f1 = any-fine ((c .before .before .before .before .before .before .before .before .before .before .before .before .before .before .before .before .before .before .before .before .before .before .args) .stream .now) (ranks k) 0 (readers ((c .before .before .before .before .before .before .before .before .before .before .before .before .before .before .before .before .before .before .before .before .before .before .args) .stream .now) (ranks k) h) (hold 0 0 none) (under ((c .before .before .before .before .before .before .before .before .before .before .before .before .before .before .before .before .before .before .before .before .before .before .args) .stream .now) k 0 h 0 parlist) (readAhead ((c .before .before .before .before .before .before .before .before .before .before .before .before .before .before .before .before .before .before .before .before .before .before .args) .stream .now) ((c .before .before .before .before .before .before .before .before .before .before .before .before .before .before .before .before .before .before .before .loop) .at) 1) ((c .before .before .before .before .before .before .before .before .before .before .before .before .before .before .before .before .before .before .before .loop) .nodes) ((c .before .before .before .before .before .before .before .before .before .before .before .before .before .before .before .before .before .before .before .loop) .u) 0 (((c .before .before .before .before .before .before .before .before .before .before .before .before .before .before .before .before .before .before .before .loop) .inv) .0) (omega (arith, ((c .before .before .before .before .before .before .before .before .before .before .before .before .before .before .before .before .before .before .before .loop) .inv) .2)) (take-takes ((c .before .before .before .before .before .before .before .before .before .before .before .before .before .before .before .before .before .before .before .before .before .before .args) .stream .now) ((c .before .before .before .before .before .before .before .before .before .before .before .before .before .before .before .before .before .before .before .loop) .at) ((sym ((c .before .before .before .before .before .before .before .before .before .before .before .before .before .before .before .before .before .before .take-next) .ensures)) ∙ (c .before .before .before .before .before .before .before .before .before .before .before .before .before .before .before .before .t) .given .1)) in
-          let f2 = leaf-fine ((c .before .before .before .before .before .before .before .before .before .before .before .before .before .before .before .before .before .before .before .before .before .before .args) .stream .now) (ranks k) 0 (readers ((c .before .before .before .before .before .before .before .before .before .before .before .before .before .before .before .before .before .before .before .before .before .before .args) .stream .now) (ranks k) h) (hold 0 0 none) (under ((c .before .before .before .before .before .before .before .before .before .before .before .before .before .before .before .before .before .before .before .before .before .before .args) .stream .now) k 0 h 0 parlist) ((c .before .before .before .before .before .before .before .before .before .before .before .before .before .before .before .before .t) .given .0 .1 .0) ((c .before .before .before .before .before .before .before .before .before .before .before .before .before .before .before .before .before .before .before .loop) .nodes) ((c .before .before .before .before .before .before .before .before .before .before .before .before .before .before .before .before .before .before .before .loop) .u) 0 (paid (took-next ((c .before .before .before .before .before .before .before .before .before .before .before .before .before .before .before .before .before .before .before .before .before .before .args) .stream .now) ((c .before .before .before .before .before .before .before .before .before .before .before .before .before .before .before .before .before .before .before .loop) .at) ((sym ((c .before .before .before .before .before .before .before .before .before .before .before .before .before .before .before .before .before .before .take-next) .ensures)) ∙ (c .before .before .before .before .before .before .before .before .before .before .before .before .before .before .before .before .t) .given .1))) (f1 .at) 30 refl (omega (arith, (took-next ((c .before .before .before .before .before .before .before .before .before .before .before .before .before .before .before .before .before .before .before .before .before .before .args) .stream .now) ((c .before .before .before .before .before .before .before .before .before .before .before .before .before .before .before .before .before .before .before .loop) .at) ((sym ((c .before .before .before .before .before .before .before .before .before .before .before .before .before .before .before .before .before .before .take-next) .ensures)) ∙ (c .before .before .before .before .before .before .before .before .before .before .before .before .before .before .before .before .t) .given .1)) .place, ((c .before .before .before .before .before .before .before .before .before .before .before .before .before .before .before .before .before .before .before .loop) .inv) .2)) ((c .before .before .before .before .before .before .before .before .before .put) .ensures) in
+          let f2 = leaf-fine ((c .before .before .before .before .before .before .before .before .before .before .before .before .before .before .before .before .before .before .before .before .before .before .args) .stream .now) (ranks k) 0 (readers ((c .before .before .before .before .before .before .before .before .before .before .before .before .before .before .before .before .before .before .before .before .before .before .args) .stream .now) (ranks k) h) (hold 0 0 none) (under ((c .before .before .before .before .before .before .before .before .before .before .before .before .before .before .before .before .before .before .before .before .before .before .args) .stream .now) k 0 h 0 parlist) ((c .before .before .before .before .before .before .before .before .before .before .before .before .before .before .before .before .t) .given .0 .1 .0) ((c .before .before .before .before .before .before .before .before .before .before .before .before .before .before .before .before .before .before .before .loop) .nodes) ((c .before .before .before .before .before .before .before .before .before .before .before .before .before .before .before .before .before .before .before .loop) .u) 0 (paid (took-next ((c .before .before .before .before .before .before .before .before .before .before .before .before .before .before .before .before .before .before .before .before .before .before .args) .stream .now) ((c .before .before .before .before .before .before .before .before .before .before .before .before .before .before .before .before .before .before .before .loop) .at) ((sym ((c .before .before .before .before .before .before .before .before .before .before .before .before .before .before .before .before .before .before .take-next) .ensures)) ∙ (c .before .before .before .before .before .before .before .before .before .before .before .before .before .before .before .before .t) .given .1))) (f1 .at) 30 (refl, refl, refl) refl (omega (arith, (took-next ((c .before .before .before .before .before .before .before .before .before .before .before .before .before .before .before .before .before .before .before .before .before .before .args) .stream .now) ((c .before .before .before .before .before .before .before .before .before .before .before .before .before .before .before .before .before .before .before .loop) .at) ((sym ((c .before .before .before .before .before .before .before .before .before .before .before .before .before .before .before .before .before .before .take-next) .ensures)) ∙ (c .before .before .before .before .before .before .before .before .before .before .before .before .before .before .before .before .t) .given .1)) .place, ((c .before .before .before .before .before .before .before .before .before .before .before .before .before .before .before .before .before .before .before .loop) .inv) .2)) ((c .before .before .before .before .before .before .before .before .before .put) .ensures) in
           let w = weighs {s = ((c .before .before .before .before .before .before .before .before .before .before .before .before .before .before .before .before .before .before .before .before .before .before .args) .stream .now)} ((c .before .before .before .before .before .before .before .before .before .put) .last .0) (((c .before .before .before .before .before .before .before .before .before .before .before .before .before .before .before .before .before .before .before .loop) .u) + 1) 0 2 ((c .before .before .before .before .before .before .before .before .before .before .before .before .before .before .before .before .t) .given .0 .1 .0) (f1 .at) (f2 .room) in
           let g1 = goes (((c .before .before .before .before .before .before .before .before .before .before .before .before .before .before .before .before .before .before .before .loop) .inv) .4 k h) (read ((c .before .before .before .before .before .before .before .before .before .before .before .before .before .before .before .before .before .before .before .before .before .before .args) .stream .now) (ranks k) 0 (readers ((c .before .before .before .before .before .before .before .before .before .before .before .before .before .before .before .before .before .before .before .before .before .before .args) .stream .now) (ranks k) h) (hold 0 0 none) (leaf 30 ⨾ plus 2 ⨾ (opt check (48 ∷ []) (any ⨾ again′))) (under ((c .before .before .before .before .before .before .before .before .before .before .before .before .before .before .before .before .before .before .before .before .before .before .args) .stream .now) k 0 h 0 parlist)) (looping ((c .before .before .before .before .before .before .before .before .before .before .before .before .before .before .before .before .before .before .before .before .before .before .args) .stream .now) k 0 h 0 (58 ⇒ (any ⨾ leaf 30 ⨾ plus 2 ⨾ (opt check (48 ∷ []) (any ⨾ again′))) ∣ 36 ⇒ (any ⨾ plus 1) ∣ refuse 63) refl ((c .before .before .before .before .before .before .before .before .before .before .before .before .before .before .before .before .before .before .before .loop) .at) (((c .before .before .before .before .before .before .before .before .before .before .before .before .before .before .before .before .before .before .before .loop) .inv) .1) ∙ by-kind ((c .before .before .before .before .before .before .before .before .before .before .before .before .before .before .before .before .before .before .before .before .before .before .args) .stream .now) (ranks k) 0 (readers ((c .before .before .before .before .before .before .before .before .before .before .before .before .before .before .before .before .before .before .before .before .before .before .args) .stream .now) (ranks k) h) (hold 0 0 none) (under ((c .before .before .before .before .before .before .before .before .before .before .before .before .before .before .before .before .before .before .before .before .before .before .args) .stream .now) k 0 h 0 parlist) ((c .before .before .before .before .before .before .before .before .before .before .before .before .before .before .before .before .before .before .before .loop) .at) (58, (any ⨾ leaf 30 ⨾ plus 2 ⨾ (opt check (48 ∷ []) (any ⨾ again′)))) ((36, (any ⨾ plus 1)) ∷ []) (refuse 63) (take-gets ((c .before .before .before .before .before .before .before .before .before .before .before .before .before .before .before .before .before .before .before .before .before .before .args) .stream .now) ((c .before .before .before .before .before .before .before .before .before .before .before .before .before .before .before .before .before .before .before .loop) .at) ((sym ((c .before .before .before .before .before .before .before .before .before .before .before .before .before .before .before .before .before .before .take-next) .ensures)) ∙ (c .before .before .before .before .before .before .before .before .before .before .before .before .before .before .before .before .t) .given .1)) ((c .before .before .before .before .before .before .before .before .before .before .before .if2) .left)) f1 (omega arith) in
           let g2 = goes g1 (read ((c .before .before .before .before .before .before .before .before .before .before .before .before .before .before .before .before .before .before .before .before .before .before .args) .stream .now) (ranks k) 0 (readers ((c .before .before .before .before .before .before .before .before .before .before .before .before .before .before .before .before .before .before .before .before .before .before .args) .stream .now) (ranks k) h) (hold 0 0 none) (plus 2 ⨾ (opt check (48 ∷ []) (any ⨾ again′))) (under ((c .before .before .before .before .before .before .before .before .before .before .before .before .before .before .before .before .before .before .before .before .before .before .args) .stream .now) k 0 h 0 parlist)) refl f2 (omega arith) in
           let g3 = goes g2 (read ((c .before .before .before .before .before .before .before .before .before .before .before .before .before .before .before .before .before .before .before .before .before .before .args) .stream .now) (ranks k) 0 (readers ((c .before .before .before .before .before .before .before .before .before .before .before .before .before .before .before .before .before .before .before .before .before .before .args) .stream .now) (ranks k) h) (hold 0 0 none) (opt check (48 ∷ []) (any ⨾ again′)) (under ((c .before .before .before .before .before .before .before .before .before .before .before .before .before .before .before .before .before .before .before .before .before .before .args) .stream .now) k 0 h 0 parlist)) refl w (omega arith) in
-          let f4 = any-fine ((c .before .before .before .before .before .before .before .before .before .before .before .before .before .before .before .before .before .before .before .before .before .before .args) .stream .now) (ranks k) 0 (readers ((c .before .before .before .before .before .before .before .before .before .before .before .before .before .before .before .before .before .before .before .before .before .before .args) .stream .now) (ranks k) h) (hold 0 0 none) (under ((c .before .before .before .before .before .before .before .before .before .before .before .before .before .before .before .before .before .before .before .before .before .before .args) .stream .now) k 0 h 0 parlist) (((c .before .before .before .before .before .before .check-ahead) .result) .cursor) ((c .before .before .before .before .before .before .before .before .before .put) .last .0) (((c .before .before .before .before .before .before .before .before .before .before .before .before .before .before .before .before .before .before .before .loop) .u) + 1) 0 (((c .before .before .before .before .before .before .before .before .before .before .before .before .before .before .before .before .before .before .before .loop) .inv) .0) (omega (arith, (took-next ((c .before .before .before .before .before .before .before .before .before .before .before .before .before .before .before .before .before .before .before .before .before .before .args) .stream .now) ((c .before .before .before .before .before .before .before .before .before .before .before .before .before .before .before .before .before .before .before .loop) .at) ((sym ((c .before .before .before .before .before .before .before .before .before .before .before .before .before .before .before .before .before .before .take-next) .ensures)) ∙ (c .before .before .before .before .before .before .before .before .before .before .before .before .before .before .before .before .t) .given .1)) .place, (check-place ((c .before .before .before .before .before .before .before .before .before .before .before .before .before .before .before .before .before .before .before .before .before .before .args) .stream .now) ((c .before .before .before .before .before .before .before .before .before .before .before .before .before .before .before .before .t) .given .0 .1 .0) 0 48 ((c .before .before .before .before .before .before .check-ahead) .ensures)), ((c .before .before .before .before .before .before .before .before .before .before .before .before .before .before .before .before .before .before .before .loop) .inv) .2)) ((sym ((c .before .before .before .take-next2) .ensures)) ∙ (c .before .f) .given .1) in
+          let f4 = renoted (check-note ((c .before .before .before .before .before .before .before .before .before .before .before .before .before .before .before .before .before .before .before .before .before .before .args) .stream .now) ((c .before .before .before .before .before .before .before .before .before .before .before .before .before .before .before .before .t) .given .0 .1 .0) 0 48 ((c .before .before .before .before .before .before .check-ahead) .ensures)) (any-fine ((c .before .before .before .before .before .before .before .before .before .before .before .before .before .before .before .before .before .before .before .before .before .before .args) .stream .now) (ranks k) 0 (readers ((c .before .before .before .before .before .before .before .before .before .before .before .before .before .before .before .before .before .before .before .before .before .before .args) .stream .now) (ranks k) h) (hold 0 0 none) (under ((c .before .before .before .before .before .before .before .before .before .before .before .before .before .before .before .before .before .before .before .before .before .before .args) .stream .now) k 0 h 0 parlist) (((c .before .before .before .before .before .before .check-ahead) .result) .cursor) ((c .before .before .before .before .before .before .before .before .before .put) .last .0) (((c .before .before .before .before .before .before .before .before .before .before .before .before .before .before .before .before .before .before .before .loop) .u) + 1) 0 (((c .before .before .before .before .before .before .before .before .before .before .before .before .before .before .before .before .before .before .before .loop) .inv) .0) (omega (arith, (took-next ((c .before .before .before .before .before .before .before .before .before .before .before .before .before .before .before .before .before .before .before .before .before .before .args) .stream .now) ((c .before .before .before .before .before .before .before .before .before .before .before .before .before .before .before .before .before .before .before .loop) .at) ((sym ((c .before .before .before .before .before .before .before .before .before .before .before .before .before .before .before .before .before .before .take-next) .ensures)) ∙ (c .before .before .before .before .before .before .before .before .before .before .before .before .before .before .before .before .t) .given .1)) .place, (check-place ((c .before .before .before .before .before .before .before .before .before .before .before .before .before .before .before .before .before .before .before .before .before .before .args) .stream .now) ((c .before .before .before .before .before .before .before .before .before .before .before .before .before .before .before .before .t) .given .0 .1 .0) 0 48 ((c .before .before .before .before .before .before .check-ahead) .ensures)), ((c .before .before .before .before .before .before .before .before .before .before .before .before .before .before .before .before .before .before .before .loop) .inv) .2)) ((sym ((c .before .before .before .take-next2) .ensures)) ∙ (c .before .f) .given .1)) in
           revalue-going (omega arith) (goes g3 (under ((c .before .before .before .before .before .before .before .before .before .before .before .before .before .before .before .before .before .before .before .before .before .before .args) .stream .now) k 0 h 0 parlist) (check-in ((c .before .before .before .before .before .before .before .before .before .before .before .before .before .before .before .before .before .before .before .before .before .before .args) .stream .now) (ranks k) 0 (readers ((c .before .before .before .before .before .before .before .before .before .before .before .before .before .before .before .before .before .before .before .before .before .before .args) .stream .now) (ranks k) h) (hold 0 0 none) (under ((c .before .before .before .before .before .before .before .before .before .before .before .before .before .before .before .before .before .before .before .before .before .before .args) .stream .now) k 0 h 0 parlist) ((c .before .before .before .before .before .before .before .before .before .before .before .before .before .before .before .before .t) .given .0 .1 .0) 48 (any ⨾ again′) empty (λ z. omega arith) ((c .before .before .before .before .before .before .check-ahead) .ensures) (not-false (((c .before .before .before .before .before .before .check-ahead) .result) .found) ((c .before .before .before .before .if3) .left))) f4 (omega (arith, (check-place ((c .before .before .before .before .before .before .before .before .before .before .before .before .before .before .before .before .before .before .before .before .before .before .args) .stream .now) ((c .before .before .before .before .before .before .before .before .before .before .before .before .before .before .before .before .t) .given .0 .1 .0) 0 48 ((c .before .before .before .before .before .before .check-ahead) .ensures))))),
     )
 

@@ -1,5 +1,5 @@
 use borrow.Author.Needs.{needs}
-use mathlib.Core.Path.{sym, ap, _∙_}
+use mathlib.Core.Path.{refl, sym, ap, _∙_}
 use Prim.Native.Nat.{_+_, _-_}
 use native.Mathlib.Omega.{arith}
 use Rattle.operators.specs.Ranks.{ranks}
@@ -54,7 +54,7 @@ unfolding read breakstat
 returns-2 c =
     λ k h.
     let f1 = any-fine ((c .before .before .before .before .before .before .before .before .before .before .args) .stream .now) (ranks k) 0 (readers ((c .before .before .before .before .before .before .before .before .before .before .args) .stream .now) (ranks k) h) (hold 0 0 none) again ((c .before .before .before .before .before .before .before .before .before .before .args) .c) ((c .before .before .before .before .before .before .before .before .before .before .args) .nodes .now) (((c .before .before .before .before .before .before .before .before .before .before .args) .used) + 1) 0 (((c .before .before .before .before .before .before .before .before .before .before .pre) .0) .formed) (omega (arith, ((c .before .before .before .before .before .before .before .before .before .before .pre) .0) .room)) ((sym ((c .before .before .before .before .before .before .before .take-next) .ensures)) ∙ (c .before .before .before .before .before .d) .given .1) in
-    rw ((c .before .before .close) .ensures .0) (over 13 opening (((c .before .before .before .before .before .before .before .before .before .before .args) .c) .place) ((c .before .before .before .before .before .before .before .before .before .before .args) .line) f1 ((c .before .before .close) .ensures .1) ((c .before .before .before .before .before .before .before .before .before .before .pre) .1))
+    rw ((c .before .before .close) .ensures .0) (over 13 opening (((c .before .before .before .before .before .before .before .before .before .before .args) .c) .place) ((c .before .before .before .before .before .before .before .before .before .before .args) .line) (refl, refl, refl) f1 ((c .before .before .close) .ensures .1) ((c .before .before .before .before .before .before .before .before .before .before .pre) .1))
 
 pub stop-spec : {M : Type 1} → statement M
 stop-spec =

@@ -20,11 +20,12 @@ use Rattle.grammar.specs.Reading.{fail, read, hold, wrap, add, last}
 use Rattle.grammar.specs.Levels.{readers}
 use Rattle.grammar.specs.Term.{unlined, here}
 use Rattle.grammar.specs.Term.{any, leaf, plus, _⨾_, refuse, node}
-use Rattle.parser.specs.Contract.{again}
+use Rattle.parser.specs.Contract.{says, again}
 use Rattle.parser.specs.Parts as P
 use Rattle.stream.proofs.Words.{few}
-use Rattle.parser.proofs.Steps.{get-place}
-use Rattle.parser.proofs.Kit.{kept, ready-seen, lower, alter, moved-sum, weighed, over}
+use Rattle.parser.proofs.Steps.{get-place, get-note}
+use Rattle.parser.proofs.Kit.{kept, ready-seen, lower, alter, renoted, moved-sum, weighed, over-own}
+use Rattle.parser.proofs.Quiet.{table-quiet, text-quiet}
 use Rattle.parser.proofs.Looks.{refused, by-none, by-kind, by-others}
 use Rattle.grammar.specs.Productions.{table as table′, args as args′}
 
@@ -92,6 +93,7 @@ pub args-list-requires : (t : ℕ) → args-lts.Need-list-requires (
 ) (args-at t) args.Post
 args-list-requires t c κs =
     let p = get-place ((c .before .before .before .before .before .before .before .before .args) .stream .now) ((c .before .before .before .before .before .before .before .before .args) .c) (sym ((c .before .before .before .before .before .get-next) .ensures) ∙ (c .before .before .before .t) .given .1) in
+    let p′ = get-note ((c .before .before .before .before .before .before .before .before .args) .stream .now) ((c .before .before .before .before .before .before .before .before .args) .c) (sym ((c .before .before .before .before .before .get-next) .ensures) ∙ (c .before .before .before .t) .given .1) in
     (omega (arith, (c .before .before .before .before .before .before .before .before .pre) .0), ready-seen ((c .before .before .before .before .before .before .before .before .pre) .1) p)
 
 pub args-add-table : (t : ℕ) → args-lts.Need-add-table (
@@ -126,6 +128,7 @@ pub args-table-requires : (t : ℕ) → args-lts.Need-table-requires (
 ) (args-at t) args.Post
 args-table-requires t c κs =
     let p = get-place ((c .before .before .before .before .before .before .before .before .args) .stream .now) ((c .before .before .before .before .before .before .before .before .args) .c) (sym ((c .before .before .before .before .before .get-next) .ensures) ∙ (c .before .before .before .t) .given .1) in
+    let p′ = get-note ((c .before .before .before .before .before .before .before .before .args) .stream .now) ((c .before .before .before .before .before .before .before .before .args) .c) (sym ((c .before .before .before .before .before .get-next) .ensures) ∙ (c .before .before .before .t) .given .1) in
     (omega (arith, (c .before .before .before .before .before .before .before .before .pre) .0), record { formed = ((c .before .before .before .before .before .before .before .before .pre) .1) .formed; at = omega (arith, p, ((c .before .before .before .before .before .before .before .before .pre) .1) .at); room = omega (arith, p, ((c .before .before .before .before .before .before .before .before .pre) .1) .room) })
 
 pub args-enum-known-e-2 : (t : ℕ) → args-lts.Need-enum-known-e-2 (
@@ -226,7 +229,8 @@ pub args-leaf-requires : (t : ℕ) → args-lts.Need-leaf-requires (
 ) (args-at t) args.Post
 args-leaf-requires t c κs =
     let p = get-place ((c .before .before .before .before .before .before .before .before .args) .stream .now) ((c .before .before .before .before .before .before .before .before .args) .c) (sym ((c .before .before .before .before .before .get-next) .ensures) ∙ (c .before .before .before .t) .given .1) in
-    record { formed = ((c .before .before .before .before .before .before .before .before .pre) .1) .formed; at = omega (arith, p, ((c .before .before .before .before .before .before .before .before .pre) .1) .at); room = omega (arith, p, ((c .before .before .before .before .before .before .before .before .pre) .1) .room) }
+    let p′ = get-note ((c .before .before .before .before .before .before .before .before .args) .stream .now) ((c .before .before .before .before .before .before .before .before .args) .c) (sym ((c .before .before .before .before .before .get-next) .ensures) ∙ (c .before .before .before .t) .given .1) in
+    (record { formed = ((c .before .before .before .before .before .before .before .before .pre) .1) .formed; at = omega (arith, p, ((c .before .before .before .before .before .before .before .before .pre) .1) .at); room = omega (arith, p, ((c .before .before .before .before .before .before .before .before .pre) .1) .room) }, (refl, refl, refl))
 
 pub args-enum-known-e-4 : (t : ℕ) → args-lts.Need-enum-known-e-4 (
   get-next-reads.Asked,
@@ -360,7 +364,8 @@ pub args-returns-2 : (t : ℕ) → args-lts.Need-returns-2 (
 unfolding read args′
 args-returns-2 t c =
     let p = get-place ((c .before .before .before .before .before .before .before .before .before .before .before .args) .stream .now) ((c .before .before .before .before .before .before .before .before .before .before .before .args) .c) (sym ((c .before .before .before .before .before .before .before .before .get-next) .ensures) ∙ (c .before .before .before .before .before .before .t) .given .1) in
-    moved-sum ((c .before .before .before .before .before .before .before .before .before .before .before .args) .stream .now) ((c .before .before .before .before .before .before .before .before .before .before .before .args) .used) 0 ((c .before .before .before .before .before .before .before .before .before .before .before .args) .nodes .now) ((c .before .before .list) .last .1 .0) ((c .before .before .list) .result) (by-kind ((c .before .before .before .before .before .before .before .before .before .before .before .args) .stream .now) (ranks ((c .before .before .before .before .before .before .before .before .before .before .before .args) .ranking)) 0 (readers ((c .before .before .before .before .before .before .before .before .before .before .before .args) .stream .now) (ranks ((c .before .before .before .before .before .before .before .before .before .before .before .args) .ranking)) ((c .before .before .before .before .before .before .before .before .before .before .before .args) .g)) (hold 0 0 none) again ((c .before .before .before .before .before .before .before .before .before .before .before .args) .c) (49, P.list) ((53, (plus 1 ⨾ node 17 here unlined table′)) ∷ (57, (plus 1 ⨾ node 17 here unlined (any ⨾ leaf 22))) ∷ []) (refuse 62) (sym ((c .before .before .before .before .before .before .before .before .get-next) .ensures) ∙ (c .before .before .before .before .before .before .t) .given .1) ((c .before .before .before .before .match2) .keys1)) (omega (arith, p)) (omega (arith, p)) ((c .before .before .list) .ensures)
+    let p′ = get-note ((c .before .before .before .before .before .before .before .before .before .before .before .args) .stream .now) ((c .before .before .before .before .before .before .before .before .before .before .before .args) .c) (sym ((c .before .before .before .before .before .before .before .before .get-next) .ensures) ∙ (c .before .before .before .before .before .before .t) .given .1) in
+    moved-sum ((c .before .before .before .before .before .before .before .before .before .before .before .args) .stream .now) p′ ((c .before .before .before .before .before .before .before .before .before .before .before .args) .used) 0 ((c .before .before .before .before .before .before .before .before .before .before .before .args) .nodes .now) ((c .before .before .list) .last .1 .0) ((c .before .before .list) .result) (by-kind ((c .before .before .before .before .before .before .before .before .before .before .before .args) .stream .now) (ranks ((c .before .before .before .before .before .before .before .before .before .before .before .args) .ranking)) 0 (readers ((c .before .before .before .before .before .before .before .before .before .before .before .args) .stream .now) (ranks ((c .before .before .before .before .before .before .before .before .before .before .before .args) .ranking)) ((c .before .before .before .before .before .before .before .before .before .before .before .args) .g)) (hold 0 0 none) again ((c .before .before .before .before .before .before .before .before .before .before .before .args) .c) (49, P.list) ((53, (plus 1 ⨾ node 17 here unlined table′)) ∷ (57, (plus 1 ⨾ node 17 here unlined (any ⨾ leaf 22))) ∷ []) (refuse 62) (sym ((c .before .before .before .before .before .before .before .before .get-next) .ensures) ∙ (c .before .before .before .before .before .before .t) .given .1) ((c .before .before .before .before .match2) .keys1)) (omega (arith, p)) (omega (arith, p)) ((c .before .before .list) .ensures)
 
 pub args-same-length-2 : (t : ℕ) → args-lts.Need-same-length-2 (
   get-next-reads.Asked,
@@ -428,8 +433,9 @@ pub args-returns-4 : (t : ℕ) → args-lts.Need-returns-4 (
 unfolding read args′
 args-returns-4 t c =
     let p = get-place ((c .before .before .before .before .before .before .before .before .before .before .before .before .before .before .before .before .before .before .args) .stream .now) ((c .before .before .before .before .before .before .before .before .before .before .before .before .before .before .before .before .before .before .args) .c) (sym ((c .before .before .before .before .before .before .before .before .before .before .before .before .before .before .before .get-next) .ensures) ∙ (c .before .before .before .before .before .before .before .before .before .before .before .before .before .t) .given .1) in
+    let p′ = get-note ((c .before .before .before .before .before .before .before .before .before .before .before .before .before .before .before .before .before .before .args) .stream .now) ((c .before .before .before .before .before .before .before .before .before .before .before .before .before .before .before .before .before .before .args) .c) (sym ((c .before .before .before .before .before .before .before .before .before .before .before .before .before .before .before .get-next) .ensures) ∙ (c .before .before .before .before .before .before .before .before .before .before .before .before .before .t) .given .1) in
     let f1 = rw ((c .before .before .before .before .before .e3) .given .1) at ((c .before .before .before .before .before .before .before .before .before .table) .ensures) in
-    let f2 = weighed 1 (over 17 unlined (((c .before .before .before .before .before .before .before .before .before .before .before .before .before .t) .given .0 .1 .0) .place) 0 f1 ((c .before .before .put) .ensures) refl) in
+    let f2 = weighed 1 (renoted p′ (over-own (((c .before .before .before .before .before .before .before .before .before .before .before .before .before .t) .given .0 .1 .0) .place) f1 (table-quiet ((c .before .before .before .before .before .before .before .before .before .before .before .before .before .before .before .before .before .before .args) .stream .now) ((c .before .before .before .before .before .before .before .before .before .before .before .before .before .before .before .before .before .before .args) .ranking) ((c .before .before .before .before .before .before .before .before .before .before .before .before .before .before .before .before .before .before .args) .g) ((c .before .before .before .before .before .before .before .before .before .before .before .before .before .t) .given .0 .1 .0) (f1 .says) (((c .before .before .before .before .before .before .before .before .before .before .before .before .before .t) .given .0 .1 .0) .note)) ((c .before .before .put) .ensures))) in
     (lower (((c .before .before .before .before .before .before .before .before .before .before .before .before .before .before .before .before .before .before .args) .c) .place + 1) (alter (by-kind ((c .before .before .before .before .before .before .before .before .before .before .before .before .before .before .before .before .before .before .args) .stream .now) (ranks ((c .before .before .before .before .before .before .before .before .before .before .before .before .before .before .before .before .before .before .args) .ranking)) 0 (readers ((c .before .before .before .before .before .before .before .before .before .before .before .before .before .before .before .before .before .before .args) .stream .now) (ranks ((c .before .before .before .before .before .before .before .before .before .before .before .before .before .before .before .before .before .before .args) .ranking)) ((c .before .before .before .before .before .before .before .before .before .before .before .before .before .before .before .before .before .before .args) .g)) (hold 0 0 none) again ((c .before .before .before .before .before .before .before .before .before .before .before .before .before .before .before .before .before .before .args) .c) (49, P.list) ((53, (plus 1 ⨾ node 17 here unlined table′)) ∷ (57, (plus 1 ⨾ node 17 here unlined (any ⨾ leaf 22))) ∷ []) (refuse 62) (sym ((c .before .before .before .before .before .before .before .before .before .before .before .before .before .before .before .get-next) .ensures) ∙ (c .before .before .before .before .before .before .before .before .before .before .before .before .before .t) .given .1) ((c .before .before .before .before .before .before .before .before .before .before .before .match2) .keys2)) f2) (omega (arith, p, f1 .later)), omega (arith, p, f1 .later))
 
 pub args-same-length-4 : (t : ℕ) → args-lts.Need-same-length-4 (
@@ -498,8 +504,9 @@ pub args-returns-6 : (t : ℕ) → args-lts.Need-returns-6 (
 unfolding read args′
 args-returns-6 t c =
     let p = get-place ((c .before .before .before .before .before .before .before .before .before .before .before .before .before .before .before .before .before .before .args) .stream .now) ((c .before .before .before .before .before .before .before .before .before .before .before .before .before .before .before .before .before .before .args) .c) (sym ((c .before .before .before .before .before .before .before .before .before .before .before .before .before .before .before .get-next) .ensures) ∙ (c .before .before .before .before .before .before .before .before .before .before .before .before .before .t) .given .1) in
+    let p′ = get-note ((c .before .before .before .before .before .before .before .before .before .before .before .before .before .before .before .before .before .before .args) .stream .now) ((c .before .before .before .before .before .before .before .before .before .before .before .before .before .before .before .before .before .before .args) .c) (sym ((c .before .before .before .before .before .before .before .before .before .before .before .before .before .before .before .get-next) .ensures) ∙ (c .before .before .before .before .before .before .before .before .before .before .before .before .before .t) .given .1) in
     let f1 = rw ((c .before .before .before .before .before .e5) .given .1) at ((c .before .before .before .before .before .before .before .before .before .leaf) .ensures ((c .before .before .before .before .before .before .before .before .before .before .before .before .before .before .before .before .before .before .args) .ranking) ((c .before .before .before .before .before .before .before .before .before .before .before .before .before .before .before .before .before .before .args) .g)) in
-    let f2 = weighed 1 (over 17 unlined (((c .before .before .before .before .before .before .before .before .before .before .before .before .before .t) .given .0 .1 .0) .place) 0 f1 ((c .before .before .put2) .ensures) refl) in
+    let f2 = weighed 1 (renoted p′ (over-own (((c .before .before .before .before .before .before .before .before .before .before .before .before .before .t) .given .0 .1 .0) .place) f1 (text-quiet ((c .before .before .before .before .before .before .before .before .before .before .before .before .before .before .before .before .before .before .args) .stream .now) ((c .before .before .before .before .before .before .before .before .before .before .before .before .before .before .before .before .before .before .args) .ranking) ((c .before .before .before .before .before .before .before .before .before .before .before .before .before .before .before .before .before .before .args) .g) ((c .before .before .before .before .before .before .before .before .before .before .before .before .before .t) .given .0 .1 .0) (f1 .says) (((c .before .before .before .before .before .before .before .before .before .before .before .before .before .t) .given .0 .1 .0) .note)) ((c .before .before .put2) .ensures))) in
     (lower (((c .before .before .before .before .before .before .before .before .before .before .before .before .before .before .before .before .before .before .args) .c) .place + 1) (alter (by-kind ((c .before .before .before .before .before .before .before .before .before .before .before .before .before .before .before .before .before .before .args) .stream .now) (ranks ((c .before .before .before .before .before .before .before .before .before .before .before .before .before .before .before .before .before .before .args) .ranking)) 0 (readers ((c .before .before .before .before .before .before .before .before .before .before .before .before .before .before .before .before .before .before .args) .stream .now) (ranks ((c .before .before .before .before .before .before .before .before .before .before .before .before .before .before .before .before .before .before .args) .ranking)) ((c .before .before .before .before .before .before .before .before .before .before .before .before .before .before .before .before .before .before .args) .g)) (hold 0 0 none) again ((c .before .before .before .before .before .before .before .before .before .before .before .before .before .before .before .before .before .before .args) .c) (49, P.list) ((53, (plus 1 ⨾ node 17 here unlined table′)) ∷ (57, (plus 1 ⨾ node 17 here unlined (any ⨾ leaf 22))) ∷ []) (refuse 62) (sym ((c .before .before .before .before .before .before .before .before .before .before .before .before .before .before .before .get-next) .ensures) ∙ (c .before .before .before .before .before .before .before .before .before .before .before .before .before .t) .given .1) ((c .before .before .before .before .before .before .before .before .before .before .before .match2) .keys3)) f2) (omega (arith, p, f1 .later)), omega (arith, p, f1 .later))
 
 pub args-returns-7 : (t : ℕ) → args-lts.Need-returns-7 (

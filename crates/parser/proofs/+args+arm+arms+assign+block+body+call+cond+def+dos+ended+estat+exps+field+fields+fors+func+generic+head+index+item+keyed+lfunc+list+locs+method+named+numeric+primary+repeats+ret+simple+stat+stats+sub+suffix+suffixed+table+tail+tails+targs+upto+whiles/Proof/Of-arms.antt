@@ -25,14 +25,14 @@ use Rattle.grammar.specs.Term.{again as again′}
 use Rattle.parser.specs.Contract.{says, under}
 use Rattle.parser.specs.Parts as P
 use Rattle.stream.proofs.Words.{few}
-use Rattle.parser.proofs.Steps.{took-next, check-in, check-out, check-place}
-use Rattle.parser.proofs.Kit.{kept, alter, revalue, looked, weighed, Going, begin, going-length, fails, ends, turns, stop, past, both}
+use Rattle.parser.proofs.Steps.{took-next, check-in, check-out, check-place, check-note}
+use Rattle.parser.proofs.Kit.{kept, alter, revalue, renoted, looked, weighed, Going, begin, going-length, fails, ends, turns, stop, past, both}
 use Rattle.parser.proofs.Tokens.{ready-after, any-fail, any-fine}
 use Rattle.parser.proofs.Around.{looping, settled}
 use Rattle.grammar.specs.Productions.{explist, retstat, block as block′}
 
 abbrev pub arms-Inv-loop : arms-lts.InvT-loop
-arms-Inv-loop stream nodes₀ ranking used g at₀ u₀ n₀ nodes at u n = Formed stream × (at .place < records stream) × (u ≤ 4 * at .place + 1) × (n + 2 * at₀ .place ≤ 2 * at .place) × Going stream (at₀ .place) used 1 nodes₀ nodes (says stream ranking g P.arms at₀) (under stream ranking 0 g 0 P.arms) at u n
+arms-Inv-loop stream nodes₀ ranking used g at₀ u₀ n₀ nodes at u n = Formed stream × (at .place < records stream) × (u ≤ 4 * at .place + 1) × (n + 2 * at₀ .place ≤ 2 * at .place) × Going stream (at₀ .note) (at₀ .place) used 1 nodes₀ nodes (says stream ranking g P.arms at₀) (under stream ranking 0 g 0 P.arms) at u n
 
 abbrev pub arms-μ-loop : arms-lts.MeasureT-loop
 arms-μ-loop stream nodes₀ ranking used g at₀ u₀ n₀ nodes at u n = records stream - at .place
@@ -78,7 +78,8 @@ pub arms-returns : (t : ℕ) → arms-lts.Need-returns (
 unfolding read block′ retstat explist
 arms-returns t c =
     let pl = (check-place ((c .before .before .before .before .before .before .args) .stream .now) ((c .before .before .before .loop) .at) 0 3 ((c .before .before .check-ahead) .ensures)) in
-    (revalue (omega arith) (ends (((c .before .before .before .loop) .inv) .4) (looked _ ((c .before .before .before .loop) .u) 1 ((c .before .before .before .loop) .at) (((c .before .before .check-ahead) .result) .cursor) (looping ((c .before .before .before .before .before .before .args) .stream .now) ((c .before .before .before .before .before .before .args) .ranking) 0 ((c .before .before .before .before .before .before .args) .g) 0 (on check (3 ∷ []) ((any ⨾ plus 2 ⨾ P.arm) ⨾ again′) empty) refl ((c .before .before .before .loop) .at) (((c .before .before .before .loop) .inv) .1) ∙ check-out ((c .before .before .before .before .before .before .args) .stream .now) (ranks ((c .before .before .before .before .before .before .args) .ranking)) 0 (readers ((c .before .before .before .before .before .before .args) .stream .now) (ranks ((c .before .before .before .before .before .before .args) .ranking)) ((c .before .before .before .before .before .before .args) .g)) (hold 0 0 none) (under ((c .before .before .before .before .before .before .args) .stream .now) ((c .before .before .before .before .before .before .args) .ranking) 0 ((c .before .before .before .before .before .before .args) .g) 0 (iter (on check (3 ∷ []) ((any ⨾ plus 2 ⨾ P.arm) ⨾ again′) empty))) ((c .before .before .before .loop) .at) 3 ((any ⨾ plus 2 ⨾ P.arm) ⨾ again′) empty (λ z. omega arith) ((c .before .before .check-ahead) .ensures) (not-true (((c .before .before .check-ahead) .result) .found) ((c .if1) .taken))) pl (((c .before .before .before .loop) .inv) .1) (((c .before .before .before .loop) .inv) .2)) (omega arith)), omega (arith, pl, ((c .before .before .before .loop) .inv) .3))
+    let pl′ = (check-note ((c .before .before .before .before .before .before .args) .stream .now) ((c .before .before .before .loop) .at) 0 3 ((c .before .before .check-ahead) .ensures)) in
+    (revalue (omega arith) (ends (((c .before .before .before .loop) .inv) .4) (looked _ ((c .before .before .before .loop) .u) 1 ((c .before .before .before .loop) .at) (((c .before .before .check-ahead) .result) .cursor) (looping ((c .before .before .before .before .before .before .args) .stream .now) ((c .before .before .before .before .before .before .args) .ranking) 0 ((c .before .before .before .before .before .before .args) .g) 0 (on check (3 ∷ []) ((any ⨾ plus 2 ⨾ P.arm) ⨾ again′) empty) refl ((c .before .before .before .loop) .at) (((c .before .before .before .loop) .inv) .1) ∙ check-out ((c .before .before .before .before .before .before .args) .stream .now) (ranks ((c .before .before .before .before .before .before .args) .ranking)) 0 (readers ((c .before .before .before .before .before .before .args) .stream .now) (ranks ((c .before .before .before .before .before .before .args) .ranking)) ((c .before .before .before .before .before .before .args) .g)) (hold 0 0 none) (under ((c .before .before .before .before .before .before .args) .stream .now) ((c .before .before .before .before .before .before .args) .ranking) 0 ((c .before .before .before .before .before .before .args) .g) 0 (iter (on check (3 ∷ []) ((any ⨾ plus 2 ⨾ P.arm) ⨾ again′) empty))) ((c .before .before .before .loop) .at) 3 ((any ⨾ plus 2 ⨾ P.arm) ⨾ again′) empty (λ z. omega arith) ((c .before .before .check-ahead) .ensures) (not-true (((c .before .before .check-ahead) .result) .found) ((c .if1) .taken))) pl pl′ (((c .before .before .before .loop) .inv) .1) (((c .before .before .before .loop) .inv) .2)) (omega arith)), omega (arith, pl, ((c .before .before .before .loop) .inv) .3))
 
 pub arms-take-next-requires : (t : ℕ) → arms-lts.Need-take-next-requires (
   check-ahead-reads.Asked,
@@ -172,7 +173,8 @@ pub arms-returns-3 : (t : ℕ) → arms-lts.Need-returns-3 (
 unfolding read block′ retstat explist
 arms-returns-3 t c =
     let pl = (check-place ((c .before .before .before .before .before .before .before .before .before .before .before .before .before .before .before .before .before .args) .stream .now) ((c .before .before .before .before .before .before .before .before .before .before .before .before .before .before .loop) .at) 0 3 ((c .before .before .before .before .before .before .before .before .before .before .before .before .before .check-ahead) .ensures)) in
-    let f1 = any-fine ((c .before .before .before .before .before .before .before .before .before .before .before .before .before .before .before .before .before .args) .stream .now) (ranks ((c .before .before .before .before .before .before .before .before .before .before .before .before .before .before .before .before .before .args) .ranking)) 0 (readers ((c .before .before .before .before .before .before .before .before .before .before .before .before .before .before .before .before .before .args) .stream .now) (ranks ((c .before .before .before .before .before .before .before .before .before .before .before .before .before .before .before .before .before .args) .ranking)) ((c .before .before .before .before .before .before .before .before .before .before .before .before .before .before .before .before .before .args) .g)) (hold 0 0 none) (under ((c .before .before .before .before .before .before .before .before .before .before .before .before .before .before .before .before .before .args) .stream .now) ((c .before .before .before .before .before .before .before .before .before .before .before .before .before .before .before .before .before .args) .ranking) 0 ((c .before .before .before .before .before .before .before .before .before .before .before .before .before .before .before .before .before .args) .g) 0 (iter (on check (3 ∷ []) ((any ⨾ plus 2 ⨾ P.arm) ⨾ again′) empty))) (((c .before .before .before .before .before .before .before .before .before .before .before .before .before .check-ahead) .result) .cursor) ((c .before .before .before .before .before .before .before .before .before .before .before .before .before .before .loop) .nodes) ((c .before .before .before .before .before .before .before .before .before .before .before .before .before .before .loop) .u) 1 (((c .before .before .before .before .before .before .before .before .before .before .before .before .before .before .loop) .inv) .0) (omega (arith, ((c .before .before .before .before .before .before .before .before .before .before .before .before .before .before .loop) .inv) .2, pl)) ((sym ((c .before .before .before .before .before .before .before .before .before .before .take-next) .ensures)) ∙ (c .before .before .before .before .before .before .before .before .e) .given .1) in
+    let pl′ = (check-note ((c .before .before .before .before .before .before .before .before .before .before .before .before .before .before .before .before .before .args) .stream .now) ((c .before .before .before .before .before .before .before .before .before .before .before .before .before .before .loop) .at) 0 3 ((c .before .before .before .before .before .before .before .before .before .before .before .before .before .check-ahead) .ensures)) in
+    let f1 = renoted pl′ (any-fine ((c .before .before .before .before .before .before .before .before .before .before .before .before .before .before .before .before .before .args) .stream .now) (ranks ((c .before .before .before .before .before .before .before .before .before .before .before .before .before .before .before .before .before .args) .ranking)) 0 (readers ((c .before .before .before .before .before .before .before .before .before .before .before .before .before .before .before .before .before .args) .stream .now) (ranks ((c .before .before .before .before .before .before .before .before .before .before .before .before .before .before .before .before .before .args) .ranking)) ((c .before .before .before .before .before .before .before .before .before .before .before .before .before .before .before .before .before .args) .g)) (hold 0 0 none) (under ((c .before .before .before .before .before .before .before .before .before .before .before .before .before .before .before .before .before .args) .stream .now) ((c .before .before .before .before .before .before .before .before .before .before .before .before .before .before .before .before .before .args) .ranking) 0 ((c .before .before .before .before .before .before .before .before .before .before .before .before .before .before .before .before .before .args) .g) 0 (iter (on check (3 ∷ []) ((any ⨾ plus 2 ⨾ P.arm) ⨾ again′) empty))) (((c .before .before .before .before .before .before .before .before .before .before .before .before .before .check-ahead) .result) .cursor) ((c .before .before .before .before .before .before .before .before .before .before .before .before .before .before .loop) .nodes) ((c .before .before .before .before .before .before .before .before .before .before .before .before .before .before .loop) .u) 1 (((c .before .before .before .before .before .before .before .before .before .before .before .before .before .before .loop) .inv) .0) (omega (arith, ((c .before .before .before .before .before .before .before .before .before .before .before .before .before .before .loop) .inv) .2, pl)) ((sym ((c .before .before .before .before .before .before .before .before .before .before .take-next) .ensures)) ∙ (c .before .before .before .before .before .before .before .before .e) .given .1)) in
     let q = settled ((c .before .before .before .before .before .before .before .before .before .before .before .before .before .before .before .before .before .args) .stream .now) ((c .before .before .before .before .before .before .before .before .before .before .before .before .before .before .before .before .before .args) .ranking) 0 ((c .before .before .before .before .before .before .before .before .before .before .before .before .before .before .before .before .before .args) .g) (hold 0 0 none) (under ((c .before .before .before .before .before .before .before .before .before .before .before .before .before .before .before .before .before .args) .stream .now) ((c .before .before .before .before .before .before .before .before .before .before .before .before .before .before .before .before .before .args) .ranking) 0 ((c .before .before .before .before .before .before .before .before .before .before .before .before .before .before .before .before .before .args) .g) 0 (iter (on check (3 ∷ []) ((any ⨾ plus 2 ⨾ P.arm) ⨾ again′) empty))) P.arm refl ((c .before .before .before .before .before .before .before .before .e) .given .0 .1 .0) in
     fails (((c .before .before .before .before .before .before .before .before .before .before .before .before .before .before .loop) .inv) .4) ((looping ((c .before .before .before .before .before .before .before .before .before .before .before .before .before .before .before .before .before .args) .stream .now) ((c .before .before .before .before .before .before .before .before .before .before .before .before .before .before .before .before .before .args) .ranking) 0 ((c .before .before .before .before .before .before .before .before .before .before .before .before .before .before .before .before .before .args) .g) 0 (on check (3 ∷ []) ((any ⨾ plus 2 ⨾ P.arm) ⨾ again′) empty) refl ((c .before .before .before .before .before .before .before .before .before .before .before .before .before .before .loop) .at) (((c .before .before .before .before .before .before .before .before .before .before .before .before .before .before .loop) .inv) .1) ∙ check-in ((c .before .before .before .before .before .before .before .before .before .before .before .before .before .before .before .before .before .args) .stream .now) (ranks ((c .before .before .before .before .before .before .before .before .before .before .before .before .before .before .before .before .before .args) .ranking)) 0 (readers ((c .before .before .before .before .before .before .before .before .before .before .before .before .before .before .before .before .before .args) .stream .now) (ranks ((c .before .before .before .before .before .before .before .before .before .before .before .before .before .before .before .before .before .args) .ranking)) ((c .before .before .before .before .before .before .before .before .before .before .before .before .before .before .before .before .before .args) .g)) (hold 0 0 none) (under ((c .before .before .before .before .before .before .before .before .before .before .before .before .before .before .before .before .before .args) .stream .now) ((c .before .before .before .before .before .before .before .before .before .before .before .before .before .before .before .before .before .args) .ranking) 0 ((c .before .before .before .before .before .before .before .before .before .before .before .before .before .before .before .before .before .args) .g) 0 (iter (on check (3 ∷ []) ((any ⨾ plus 2 ⨾ P.arm) ⨾ again′) empty))) ((c .before .before .before .before .before .before .before .before .before .before .before .before .before .before .loop) .at) 3 ((any ⨾ plus 2 ⨾ P.arm) ⨾ again′) empty (λ z. omega arith) ((c .before .before .before .before .before .before .before .before .before .before .before .before .before .check-ahead) .ensures) (not-false (((c .before .before .before .before .before .before .before .before .before .before .before .before .before .check-ahead) .result) .found) ((c .before .before .before .before .before .before .before .before .before .before .before .if1) .left))) ∙ stop _ (past _ f1 (ap (add none 2) (q ∙ rw ((c .before .e3) .given .1) at ((c .before .before .before .before .before .arm) .ensures)))))
 
@@ -217,7 +219,8 @@ pub arms-loop-again : (t : ℕ) → arms-lts.Need-loop-again (
 unfolding read block′ retstat explist
 arms-loop-again t c =
     let pl = (check-place ((c .before .before .before .before .before .before .before .before .before .before .before .before .before .before .before .before .before .args) .stream .now) ((c .before .before .before .before .before .before .before .before .before .before .before .before .before .before .loop) .at) 0 3 ((c .before .before .before .before .before .before .before .before .before .before .before .before .before .check-ahead) .ensures)) in
-    let f1 = any-fine ((c .before .before .before .before .before .before .before .before .before .before .before .before .before .before .before .before .before .args) .stream .now) (ranks ((c .before .before .before .before .before .before .before .before .before .before .before .before .before .before .before .before .before .args) .ranking)) 0 (readers ((c .before .before .before .before .before .before .before .before .before .before .before .before .before .before .before .before .before .args) .stream .now) (ranks ((c .before .before .before .before .before .before .before .before .before .before .before .before .before .before .before .before .before .args) .ranking)) ((c .before .before .before .before .before .before .before .before .before .before .before .before .before .before .before .before .before .args) .g)) (hold 0 0 none) (under ((c .before .before .before .before .before .before .before .before .before .before .before .before .before .before .before .before .before .args) .stream .now) ((c .before .before .before .before .before .before .before .before .before .before .before .before .before .before .before .before .before .args) .ranking) 0 ((c .before .before .before .before .before .before .before .before .before .before .before .before .before .before .before .before .before .args) .g) 0 (iter (on check (3 ∷ []) ((any ⨾ plus 2 ⨾ P.arm) ⨾ again′) empty))) (((c .before .before .before .before .before .before .before .before .before .before .before .before .before .check-ahead) .result) .cursor) ((c .before .before .before .before .before .before .before .before .before .before .before .before .before .before .loop) .nodes) ((c .before .before .before .before .before .before .before .before .before .before .before .before .before .before .loop) .u) 1 (((c .before .before .before .before .before .before .before .before .before .before .before .before .before .before .loop) .inv) .0) (omega (arith, ((c .before .before .before .before .before .before .before .before .before .before .before .before .before .before .loop) .inv) .2, pl)) ((sym ((c .before .before .before .before .before .before .before .before .before .before .take-next) .ensures)) ∙ (c .before .before .before .before .before .before .before .before .e) .given .1) in
+    let pl′ = (check-note ((c .before .before .before .before .before .before .before .before .before .before .before .before .before .before .before .before .before .args) .stream .now) ((c .before .before .before .before .before .before .before .before .before .before .before .before .before .before .loop) .at) 0 3 ((c .before .before .before .before .before .before .before .before .before .before .before .before .before .check-ahead) .ensures)) in
+    let f1 = renoted pl′ (any-fine ((c .before .before .before .before .before .before .before .before .before .before .before .before .before .before .before .before .before .args) .stream .now) (ranks ((c .before .before .before .before .before .before .before .before .before .before .before .before .before .before .before .before .before .args) .ranking)) 0 (readers ((c .before .before .before .before .before .before .before .before .before .before .before .before .before .before .before .before .before .args) .stream .now) (ranks ((c .before .before .before .before .before .before .before .before .before .before .before .before .before .before .before .before .before .args) .ranking)) ((c .before .before .before .before .before .before .before .before .before .before .before .before .before .before .before .before .before .args) .g)) (hold 0 0 none) (under ((c .before .before .before .before .before .before .before .before .before .before .before .before .before .before .before .before .before .args) .stream .now) ((c .before .before .before .before .before .before .before .before .before .before .before .before .before .before .before .before .before .args) .ranking) 0 ((c .before .before .before .before .before .before .before .before .before .before .before .before .before .before .before .before .before .args) .g) 0 (iter (on check (3 ∷ []) ((any ⨾ plus 2 ⨾ P.arm) ⨾ again′) empty))) (((c .before .before .before .before .before .before .before .before .before .before .before .before .before .check-ahead) .result) .cursor) ((c .before .before .before .before .before .before .before .before .before .before .before .before .before .before .loop) .nodes) ((c .before .before .before .before .before .before .before .before .before .before .before .before .before .before .loop) .u) 1 (((c .before .before .before .before .before .before .before .before .before .before .before .before .before .before .loop) .inv) .0) (omega (arith, ((c .before .before .before .before .before .before .before .before .before .before .before .before .before .before .loop) .inv) .2, pl)) ((sym ((c .before .before .before .before .before .before .before .before .before .before .take-next) .ensures)) ∙ (c .before .before .before .before .before .before .before .before .e) .given .1)) in
     let q = settled ((c .before .before .before .before .before .before .before .before .before .before .before .before .before .before .before .before .before .args) .stream .now) ((c .before .before .before .before .before .before .before .before .before .before .before .before .before .before .before .before .before .args) .ranking) 0 ((c .before .before .before .before .before .before .before .before .before .before .before .before .before .before .before .before .before .args) .g) (hold 0 0 none) (under ((c .before .before .before .before .before .before .before .before .before .before .before .before .before .before .before .before .before .args) .stream .now) ((c .before .before .before .before .before .before .before .before .before .before .before .before .before .before .before .before .before .args) .ranking) 0 ((c .before .before .before .before .before .before .before .before .before .before .before .before .before .before .before .before .before .args) .g) 0 (iter (on check (3 ∷ []) ((any ⨾ plus 2 ⨾ P.arm) ⨾ again′) empty))) P.arm refl ((c .before .before .before .before .before .before .before .before .e) .given .0 .1 .0) in
     let f2 = alter q (rw ((c .before .f) .given .1) at ((c .before .before .before .before .before .arm) .ensures)) in
     (((c .before .before .before .before .before .before .before .before .before .before .before .before .before .before .loop) .inv) .0, f2 .at, f2 .room, omega (arith, f2 .later, (took-next ((c .before .before .before .before .before .before .before .before .before .before .before .before .before .before .before .before .before .args) .stream .now) (((c .before .before .before .before .before .before .before .before .before .before .before .before .before .check-ahead) .result) .cursor) ((sym ((c .before .before .before .before .before .before .before .before .before .before .take-next) .ensures)) ∙ (c .before .before .before .before .before .before .before .before .e) .given .1)) .place, pl, ((c .before .before .before .before .before .before .before .before .before .before .before .before .before .before .loop) .inv) .3), turns (((c .before .before .before .before .before .before .before .before .before .before .before .before .before .before .loop) .inv) .4) (looping ((c .before .before .before .before .before .before .before .before .before .before .before .before .before .before .before .before .before .args) .stream .now) ((c .before .before .before .before .before .before .before .before .before .before .before .before .before .before .before .before .before .args) .ranking) 0 ((c .before .before .before .before .before .before .before .before .before .before .before .before .before .before .before .before .before .args) .g) 0 (on check (3 ∷ []) ((any ⨾ plus 2 ⨾ P.arm) ⨾ again′) empty) refl ((c .before .before .before .before .before .before .before .before .before .before .before .before .before .before .loop) .at) (((c .before .before .before .before .before .before .before .before .before .before .before .before .before .before .loop) .inv) .1) ∙ check-in ((c .before .before .before .before .before .before .before .before .before .before .before .before .before .before .before .before .before .args) .stream .now) (ranks ((c .before .before .before .before .before .before .before .before .before .before .before .before .before .before .before .before .before .args) .ranking)) 0 (readers ((c .before .before .before .before .before .before .before .before .before .before .before .before .before .before .before .before .before .args) .stream .now) (ranks ((c .before .before .before .before .before .before .before .before .before .before .before .before .before .before .before .before .before .args) .ranking)) ((c .before .before .before .before .before .before .before .before .before .before .before .before .before .before .before .before .before .args) .g)) (hold 0 0 none) (under ((c .before .before .before .before .before .before .before .before .before .before .before .before .before .before .before .before .before .args) .stream .now) ((c .before .before .before .before .before .before .before .before .before .before .before .before .before .before .before .before .before .args) .ranking) 0 ((c .before .before .before .before .before .before .before .before .before .before .before .before .before .before .before .before .before .args) .g) 0 (iter (on check (3 ∷ []) ((any ⨾ plus 2 ⨾ P.arm) ⨾ again′) empty))) ((c .before .before .before .before .before .before .before .before .before .before .before .before .before .before .loop) .at) 3 ((any ⨾ plus 2 ⨾ P.arm) ⨾ again′) empty (λ z. omega arith) ((c .before .before .before .before .before .before .before .before .before .before .before .before .before .check-ahead) .ensures) (not-false (((c .before .before .before .before .before .before .before .before .before .before .before .before .before .check-ahead) .result) .found) ((c .before .before .before .before .before .before .before .before .before .before .before .if1) .left))) (both _ f1 (weighed 2 f2) (omega arith)) (omega (arith, pl)) (f2 .room))

@@ -90,4 +90,4 @@ pub call-returns-2 : (t : ℕ) → call-lts.Need-returns-2 (
 unfolding read
 call-returns-2 t c =
     let f1 = (rw ((c .before .before .before .before .before .d) .given .1) at ((c .before .before .before .before .before .before .before .before .before .args2) .ensures)) .0 in
-    rw ((c .before .before .close) .ensures .0) (over 34 unlined (((c .before .before .before .before .before .before .before .before .before .before .before .before .before .args) .c) .place) 0 f1 ((c .before .before .close) .ensures .1) refl)
+    rw ((c .before .before .close) .ensures .0) (over 34 unlined (((c .before .before .before .before .before .before .before .before .before .before .before .before .before .args) .c) .place) 0 (refl, refl, refl) f1 ((c .before .before .close) .ensures .1) refl)

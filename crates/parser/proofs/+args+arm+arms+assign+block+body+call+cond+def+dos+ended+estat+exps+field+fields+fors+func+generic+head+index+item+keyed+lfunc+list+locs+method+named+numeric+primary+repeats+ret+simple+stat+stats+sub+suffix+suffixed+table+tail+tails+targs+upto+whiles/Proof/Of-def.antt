@@ -374,4 +374,4 @@ def-returns-5 t c =
     let f2 = (rw ((c .before .before .before .before .before .before .before .before .before .before .before .before .before .before .before .before .e3) .given .1) at ((c .before .before .before .before .before .before .before .before .before .before .before .before .before .before .before .before .before .before .before .before .parlist) .ensures ((c .before .before .before .before .before .before .before .before .before .before .before .before .before .before .before .before .before .before .before .before .before .before .before .before .before .before .before .before .args) .ranking) ((c .before .before .before .before .before .before .before .before .before .before .before .before .before .before .before .before .before .before .before .before .before .before .before .before .before .before .before .before .args) .g))) .0 in
     let f3 = rw ((c .before .before .before .before .before .before .before .before .before .before .before .before .f) .given .1) at (expect-after ((c .before .before .before .before .before .before .before .before .before .before .before .before .before .before .before .before .before .before .before .before .before .before .before .before .before .before .before .before .args) .stream .now) (ranks ((c .before .before .before .before .before .before .before .before .before .before .before .before .before .before .before .before .before .before .before .before .before .before .before .before .before .before .before .before .args) .ranking)) 0 (readers ((c .before .before .before .before .before .before .before .before .before .before .before .before .before .before .before .before .before .before .before .before .before .before .before .before .before .before .before .before .args) .stream .now) (ranks ((c .before .before .before .before .before .before .before .before .before .before .before .before .before .before .before .before .before .before .before .before .before .before .before .before .before .before .before .before .args) .ranking)) ((c .before .before .before .before .before .before .before .before .before .before .before .before .before .before .before .before .before .before .before .before .before .before .before .before .before .before .before .before .args) .g)) (hold 0 0 none) again f2 50 refl refl (((c .before .before .before .before .before .before .before .before .before .before .before .before .before .before .before .before .before .before .before .before .before .before .before .before .before .before .before .before .pre) .1) .formed) 0 (omega arith) ((c .before .before .before .before .before .before .before .before .before .before .before .before .before .before .expect) .result) ((c .before .before .before .before .before .before .before .before .before .before .before .before .before .before .expect) .ensures)) in
     let f4 = rw ((c .before .before .before .before .before .h) .given .1) at ((c .before .before .before .before .before .before .before .before .before .ended) .ensures) in
-    rw ((c .before .before .close) .ensures .0) (over 28 unlined (((c .before .before .before .before .before .before .before .before .before .before .before .before .before .before .before .before .before .before .before .before .before .before .before .before .before .before .before .before .args) .c) .place) 0 (revalue (omega arith) (both _ f1 (both _ f2 (both _ f3 f4 (omega arith)) (omega arith)) (omega arith))) ((c .before .before .close) .ensures .1) refl)
+    rw ((c .before .before .close) .ensures .0) (over 28 unlined (((c .before .before .before .before .before .before .before .before .before .before .before .before .before .before .before .before .before .before .before .before .before .before .before .before .before .before .before .before .args) .c) .place) 0 (refl, refl, refl) (revalue (omega arith) (both _ f1 (both _ f2 (both _ f3 f4 (omega arith)) (omega arith)) (omega arith))) ((c .before .before .close) .ensures .1) refl)

@@ -29,9 +29,9 @@ use Rattle.grammar.specs.Term.{plus, _⨾_, on, node, held}
 use Rattle.parser.specs.Contract.{under}
 use Rattle.parser.specs.Parts as P
 use Rattle.stream.proofs.Words.{few}
-use Rattle.parser.proofs.Steps.{look-in, look-out, end-out, look-place, end-place, saw-line}
+use Rattle.parser.proofs.Steps.{look-in, look-out, end-out, look-place, end-place, look-note, end-note, saw-line}
 use Rattle.parser.proofs.Among.{among, nor}
-use Rattle.parser.proofs.Kit.{kept, ready-at, ready-seen, alter, revalue, moved, weighed, stop, past, both, over}
+use Rattle.parser.proofs.Kit.{kept, ready-at, ready-seen, alter, revalue, still, moved, weighed, stop, past, both, over}
 use Rattle.parser.proofs.Around.{settled-end, lead-stop, leads-is, held-at, keep-fine, keep-fail}
 use Rattle.parser.proofs.Suffixes.{suffixed-fits, called}
 use Rattle.grammar.specs.Productions.{explist, field as field′, table as table′, args as args′, suffix as suffix′, primary as primary′, suffixed as suffixed′, exprstat}
@@ -287,8 +287,9 @@ unfolding read exprstat
 estat-returns t c =
     let y = rw ((c .before .before .before .before .before .before .before .before .before .before .before .before .before .d) .given .1) at ((c .before .before .before .before .before .before .before .before .before .before .before .before .before .before .before .before .before .suffixed) .ensures) in
     let p = look-place ((c .before .before .before .before .before .before .before .before .before .before .before .before .before .before .before .before .before .before .before .before .before .args) .stream .now) ((c .before .before .before .before .before .before .before .before .before .before .before .before .before .d) .given .0 .0) (sym ((c .before .before .before .before .before .before .before .before .before .before .before .look-ahead) .ensures) ∙ (c .before .before .before .before .before .before .before .before .before .t) .given .1) in
-    moved ((c .before .before .before .before .before .before .before .before .before .before .before .before .before .before .before .before .before .before .before .before .before .args) .stream .now) ((c .before .before .before .before .before .before .before .before .before .before .before .before .before .before .before .before .before .before .before .before .before .args) .used) 0 ((c .before .before .before .before .before .before .before .before .before .before .before .before .before .before .before .before .before .before .before .before .before .args) .nodes .now) ((c .before .before .calling2) .last .0) ((c .before .before .calling2) .result) (leads-is (λ t q. loop ((c .before .before .before .before .before .before .before .before .before .before .before .before .before .before .before .before .before .before .before .before .before .args) .stream .now) (suc (length ((c .before .before .before .before .before .before .before .before .before .before .before .before .before .before .before .before .before .before .before .before .before .args) .stream .now))) (read ((c .before .before .before .before .before .before .before .before .before .before .before .before .before .before .before .before .before .before .before .before .before .args) .stream .now) (ranks ((c .before .before .before .before .before .before .before .before .before .before .before .before .before .before .before .before .before .before .before .before .before .args) .ranking)) 0 (readers ((c .before .before .before .before .before .before .before .before .before .before .before .before .before .before .before .before .before .before .before .before .before .args) .stream .now) (ranks ((c .before .before .before .before .before .before .before .before .before .before .before .before .before .before .before .before .before .before .before .before .before .args) .ranking)) ((c .before .before .before .before .before .before .before .before .before .before .before .before .before .before .before .before .before .before .before .before .before .args) .g)) (hold (((c .before .before .before .before .before .before .before .before .before .before .before .before .before .before .before .before .before .before .before .before .before .args) .c) .place) q t) (on ahead (37 ∷ 48 ∷ []) (node 16 back opening (held target 3 ⨾ plus 1 ⨾ P.assigned)) (node 15 back opening (held call′ 4)))) q) (y .0) ∙ look-out ((c .before .before .before .before .before .before .before .before .before .before .before .before .before .before .before .before .before .before .before .before .before .args) .stream .now) (ranks ((c .before .before .before .before .before .before .before .before .before .before .before .before .before .before .before .before .before .before .before .before .before .args) .ranking)) 0 (readers ((c .before .before .before .before .before .before .before .before .before .before .before .before .before .before .before .before .before .before .before .before .before .args) .stream .now) (ranks ((c .before .before .before .before .before .before .before .before .before .before .before .before .before .before .before .before .before .before .before .before .before .args) .ranking)) ((c .before .before .before .before .before .before .before .before .before .before .before .before .before .before .before .before .before .before .before .before .before .args) .g)) (hold (((c .before .before .before .before .before .before .before .before .before .before .before .before .before .before .before .before .before .before .before .before .before .args) .c) .place) (((c .before .before .before .before .before .before .before .before .before .before .before .before .before .d) .given .0 .0) .place) (y .0 .trees)) (loop ((c .before .before .before .before .before .before .before .before .before .before .before .before .before .before .before .before .before .before .before .before .before .args) .stream .now) (length ((c .before .before .before .before .before .before .before .before .before .before .before .before .before .before .before .before .before .before .before .before .before .args) .stream .now)) (read ((c .before .before .before .before .before .before .before .before .before .before .before .before .before .before .before .before .before .before .before .before .before .args) .stream .now) (ranks ((c .before .before .before .before .before .before .before .before .before .before .before .before .before .before .before .before .before .before .before .before .before .args) .ranking)) 0 (readers ((c .before .before .before .before .before .before .before .before .before .before .before .before .before .before .before .before .before .before .before .before .before .args) .stream .now) (ranks ((c .before .before .before .before .before .before .before .before .before .before .before .before .before .before .before .before .before .before .before .before .before .args) .ranking)) ((c .before .before .before .before .before .before .before .before .before .before .before .before .before .before .before .before .before .before .before .before .before .args) .g)) (hold (((c .before .before .before .before .before .before .before .before .before .before .before .before .before .before .before .before .before .before .before .before .before .args) .c) .place) (((c .before .before .before .before .before .before .before .before .before .before .before .before .before .d) .given .0 .0) .place) (y .0 .trees)) (on ahead (37 ∷ 48 ∷ []) (node 16 back opening (held target 3 ⨾ plus 1 ⨾ P.assigned)) (node 15 back opening (held call′ 4))))) ((c .before .before .before .before .before .before .before .before .before .before .before .before .before .d) .given .0 .0) (37 ∷ 48 ∷ []) (node 16 back opening (held target 3 ⨾ plus 1 ⨾ P.assigned)) (node 15 back opening (held call′ 4)) (sym ((c .before .before .before .before .before .before .before .before .before .before .before .look-ahead) .ensures) ∙ (c .before .before .before .before .before .before .before .before .before .t) .given .1) (nor (((c .before .before .before .before .before .before .before .before .before .t) .given .0 .0) .kind) (37 ∷ 48 ∷ []) ((c .before .before .before .before .before .before .if1) .taken) ((c .before .before .before .before .if2) .taken))) (omega arith)
-    (called ((c .before .before .before .before .before .before .before .before .before .before .before .before .before .before .before .before .before .before .before .before .before .args) .used) ((c .before .before .before .before .before .before .before .before .before .before .before .before .before .d) .given .0 .1 .1 .0) (((c .before .before .before .before .before .before .before .before .before .before .before .before .before .before .before .before .before .before .before .before .before .args) .c) .place) ((c .before .before .before .before .before .before .before .before .before .before .before .before .before .before .before .before .before .before .before .before .before .args) .line) (((c .before .before .before .before .before .before .before .before .before .t) .given .0 .0) .line) ((c .before .before .calling2) .last .0) (y .0) ((c .before .before .before .before .before .before .before .before .before .t) .given .0 .1 .0) p (suffixed-fits ((c .before .before .before .before .before .before .before .before .before .before .before .before .before .before .before .before .before .before .before .before .before .args) .stream .now) ((c .before .before .before .before .before .before .before .before .before .before .before .before .before .before .before .before .before .before .before .before .before .args) .ranking) ((c .before .before .before .before .before .before .before .before .before .before .before .before .before .before .before .before .before .before .before .before .before .args) .g) ((c .before .before .before .before .before .before .before .before .before .before .before .before .before .before .before .before .before .before .before .before .before .args) .c) call′ (y .0) (y .1)) ((c .before .before .before .before .before .before .before .before .before .before .before .before .before .before .before .before .before .before .before .before .before .pre) .1 .1) ((saw-line ((c .before .before .before .before .before .before .before .before .before .before .before .before .before .before .before .before .before .before .before .before .before .args) .stream .now) ((c .before .before .before .before .before .before .before .before .before .before .before .before .before .d) .given .0 .0) (sym ((c .before .before .before .before .before .before .before .before .before .before .before .look-ahead) .ensures) ∙ (c .before .before .before .before .before .before .before .before .before .t) .given .1)) ∙ ap (lineAt ((c .before .before .before .before .before .before .before .before .before .before .before .before .before .before .before .before .before .before .before .before .before .args) .stream .now)) p) ((c .before .before .calling2) .result) ((c .before .before .calling2) .ensures))
+    let p′ = look-note ((c .before .before .before .before .before .before .before .before .before .before .before .before .before .before .before .before .before .before .before .before .before .args) .stream .now) ((c .before .before .before .before .before .before .before .before .before .before .before .before .before .d) .given .0 .0) (sym ((c .before .before .before .before .before .before .before .before .before .before .before .look-ahead) .ensures) ∙ (c .before .before .before .before .before .before .before .before .before .t) .given .1) in
+    moved ((c .before .before .before .before .before .before .before .before .before .before .before .before .before .before .before .before .before .before .before .before .before .args) .stream .now) (still (((c .before .before .before .before .before .before .before .before .before .before .before .before .before .before .before .before .before .before .before .before .before .args) .c) .note)) ((c .before .before .before .before .before .before .before .before .before .before .before .before .before .before .before .before .before .before .before .before .before .args) .used) 0 ((c .before .before .before .before .before .before .before .before .before .before .before .before .before .before .before .before .before .before .before .before .before .args) .nodes .now) ((c .before .before .calling2) .last .0) ((c .before .before .calling2) .result) (leads-is (λ t q. loop ((c .before .before .before .before .before .before .before .before .before .before .before .before .before .before .before .before .before .before .before .before .before .args) .stream .now) (suc (length ((c .before .before .before .before .before .before .before .before .before .before .before .before .before .before .before .before .before .before .before .before .before .args) .stream .now))) (read ((c .before .before .before .before .before .before .before .before .before .before .before .before .before .before .before .before .before .before .before .before .before .args) .stream .now) (ranks ((c .before .before .before .before .before .before .before .before .before .before .before .before .before .before .before .before .before .before .before .before .before .args) .ranking)) 0 (readers ((c .before .before .before .before .before .before .before .before .before .before .before .before .before .before .before .before .before .before .before .before .before .args) .stream .now) (ranks ((c .before .before .before .before .before .before .before .before .before .before .before .before .before .before .before .before .before .before .before .before .before .args) .ranking)) ((c .before .before .before .before .before .before .before .before .before .before .before .before .before .before .before .before .before .before .before .before .before .args) .g)) (hold (((c .before .before .before .before .before .before .before .before .before .before .before .before .before .before .before .before .before .before .before .before .before .args) .c) .place) q t) (on ahead (37 ∷ 48 ∷ []) (node 16 back opening (held target 3 ⨾ plus 1 ⨾ P.assigned)) (node 15 back opening (held call′ 4)))) q) (y .0) ∙ look-out ((c .before .before .before .before .before .before .before .before .before .before .before .before .before .before .before .before .before .before .before .before .before .args) .stream .now) (ranks ((c .before .before .before .before .before .before .before .before .before .before .before .before .before .before .before .before .before .before .before .before .before .args) .ranking)) 0 (readers ((c .before .before .before .before .before .before .before .before .before .before .before .before .before .before .before .before .before .before .before .before .before .args) .stream .now) (ranks ((c .before .before .before .before .before .before .before .before .before .before .before .before .before .before .before .before .before .before .before .before .before .args) .ranking)) ((c .before .before .before .before .before .before .before .before .before .before .before .before .before .before .before .before .before .before .before .before .before .args) .g)) (hold (((c .before .before .before .before .before .before .before .before .before .before .before .before .before .before .before .before .before .before .before .before .before .args) .c) .place) (((c .before .before .before .before .before .before .before .before .before .before .before .before .before .d) .given .0 .0) .place) (y .0 .trees)) (loop ((c .before .before .before .before .before .before .before .before .before .before .before .before .before .before .before .before .before .before .before .before .before .args) .stream .now) (length ((c .before .before .before .before .before .before .before .before .before .before .before .before .before .before .before .before .before .before .before .before .before .args) .stream .now)) (read ((c .before .before .before .before .before .before .before .before .before .before .before .before .before .before .before .before .before .before .before .before .before .args) .stream .now) (ranks ((c .before .before .before .before .before .before .before .before .before .before .before .before .before .before .before .before .before .before .before .before .before .args) .ranking)) 0 (readers ((c .before .before .before .before .before .before .before .before .before .before .before .before .before .before .before .before .before .before .before .before .before .args) .stream .now) (ranks ((c .before .before .before .before .before .before .before .before .before .before .before .before .before .before .before .before .before .before .before .before .before .args) .ranking)) ((c .before .before .before .before .before .before .before .before .before .before .before .before .before .before .before .before .before .before .before .before .before .args) .g)) (hold (((c .before .before .before .before .before .before .before .before .before .before .before .before .before .before .before .before .before .before .before .before .before .args) .c) .place) (((c .before .before .before .before .before .before .before .before .before .before .before .before .before .d) .given .0 .0) .place) (y .0 .trees)) (on ahead (37 ∷ 48 ∷ []) (node 16 back opening (held target 3 ⨾ plus 1 ⨾ P.assigned)) (node 15 back opening (held call′ 4))))) ((c .before .before .before .before .before .before .before .before .before .before .before .before .before .d) .given .0 .0) (37 ∷ 48 ∷ []) (node 16 back opening (held target 3 ⨾ plus 1 ⨾ P.assigned)) (node 15 back opening (held call′ 4)) (sym ((c .before .before .before .before .before .before .before .before .before .before .before .look-ahead) .ensures) ∙ (c .before .before .before .before .before .before .before .before .before .t) .given .1) (nor (((c .before .before .before .before .before .before .before .before .before .t) .given .0 .0) .kind) (37 ∷ 48 ∷ []) ((c .before .before .before .before .before .before .if1) .taken) ((c .before .before .before .before .if2) .taken))) (omega arith)
+    (called ((c .before .before .before .before .before .before .before .before .before .before .before .before .before .before .before .before .before .before .before .before .before .args) .used) ((c .before .before .before .before .before .before .before .before .before .before .before .before .before .d) .given .0 .1 .1 .0) (((c .before .before .before .before .before .before .before .before .before .before .before .before .before .before .before .before .before .before .before .before .before .args) .c) .place) ((c .before .before .before .before .before .before .before .before .before .before .before .before .before .before .before .before .before .before .before .before .before .args) .line) (((c .before .before .before .before .before .before .before .before .before .t) .given .0 .0) .line) ((c .before .before .calling2) .last .0) (y .0) ((c .before .before .before .before .before .before .before .before .before .t) .given .0 .1 .0) p p′ (suffixed-fits ((c .before .before .before .before .before .before .before .before .before .before .before .before .before .before .before .before .before .before .before .before .before .args) .stream .now) ((c .before .before .before .before .before .before .before .before .before .before .before .before .before .before .before .before .before .before .before .before .before .args) .ranking) ((c .before .before .before .before .before .before .before .before .before .before .before .before .before .before .before .before .before .before .before .before .before .args) .g) ((c .before .before .before .before .before .before .before .before .before .before .before .before .before .before .before .before .before .before .before .before .before .args) .c) call′ (y .0) (y .1)) ((c .before .before .before .before .before .before .before .before .before .before .before .before .before .before .before .before .before .before .before .before .before .pre) .1 .1) ((saw-line ((c .before .before .before .before .before .before .before .before .before .before .before .before .before .before .before .before .before .before .before .before .before .args) .stream .now) ((c .before .before .before .before .before .before .before .before .before .before .before .before .before .d) .given .0 .0) (sym ((c .before .before .before .before .before .before .before .before .before .before .before .look-ahead) .ensures) ∙ (c .before .before .before .before .before .before .before .before .before .t) .given .1)) ∙ ap (lineAt ((c .before .before .before .before .before .before .before .before .before .before .before .before .before .before .before .before .before .before .before .before .before .args) .stream .now)) p) ((c .before .before .calling2) .result) ((c .before .before .calling2) .ensures))
 
 pub estat-is-target-requires : (t : ℕ) → estat-lts.Need-is-target-requires (
   suffixed-below t,
@@ -372,9 +373,10 @@ unfolding read exprstat held-at
 estat-returns-2 t c =
     let y = rw ((c .before .before .before .before .before .before .before .before .before .before .d) .given .1) at ((c .before .before .before .before .before .before .before .before .before .before .before .before .before .before .suffixed) .ensures) in
     let p = look-place ((c .before .before .before .before .before .before .before .before .before .before .before .before .before .before .before .before .before .before .args) .stream .now) ((c .before .before .before .before .before .before .before .before .before .before .d) .given .0 .0) (sym ((c .before .before .before .before .before .before .before .before .look-ahead) .ensures) ∙ (c .before .before .before .before .before .before .t) .given .1) in
+    let p′ = look-note ((c .before .before .before .before .before .before .before .before .before .before .before .before .before .before .before .before .before .before .args) .stream .now) ((c .before .before .before .before .before .before .before .before .before .before .d) .given .0 .0) (sym ((c .before .before .before .before .before .before .before .before .look-ahead) .ensures) ∙ (c .before .before .before .before .before .before .t) .given .1) in
     let o = leads-is (λ t q. loop ((c .before .before .before .before .before .before .before .before .before .before .before .before .before .before .before .before .before .before .args) .stream .now) (suc (length ((c .before .before .before .before .before .before .before .before .before .before .before .before .before .before .before .before .before .before .args) .stream .now))) (read ((c .before .before .before .before .before .before .before .before .before .before .before .before .before .before .before .before .before .before .args) .stream .now) (ranks ((c .before .before .before .before .before .before .before .before .before .before .before .before .before .before .before .before .before .before .args) .ranking)) 0 (readers ((c .before .before .before .before .before .before .before .before .before .before .before .before .before .before .before .before .before .before .args) .stream .now) (ranks ((c .before .before .before .before .before .before .before .before .before .before .before .before .before .before .before .before .before .before .args) .ranking)) ((c .before .before .before .before .before .before .before .before .before .before .before .before .before .before .before .before .before .before .args) .g)) (hold (((c .before .before .before .before .before .before .before .before .before .before .before .before .before .before .before .before .before .before .args) .c) .place) q t) (on ahead (37 ∷ 48 ∷ []) (node 16 back opening (held target 3 ⨾ plus 1 ⨾ P.assigned)) (node 15 back opening (held call′ 4)))) q) (y .0) ∙ look-in ((c .before .before .before .before .before .before .before .before .before .before .before .before .before .before .before .before .before .before .args) .stream .now) (ranks ((c .before .before .before .before .before .before .before .before .before .before .before .before .before .before .before .before .before .before .args) .ranking)) 0 (readers ((c .before .before .before .before .before .before .before .before .before .before .before .before .before .before .before .before .before .before .args) .stream .now) (ranks ((c .before .before .before .before .before .before .before .before .before .before .before .before .before .before .before .before .before .before .args) .ranking)) ((c .before .before .before .before .before .before .before .before .before .before .before .before .before .before .before .before .before .before .args) .g)) (hold (((c .before .before .before .before .before .before .before .before .before .before .before .before .before .before .before .before .before .before .args) .c) .place) (((c .before .before .before .before .before .before .before .before .before .before .d) .given .0 .0) .place) (y .0 .trees)) (loop ((c .before .before .before .before .before .before .before .before .before .before .before .before .before .before .before .before .before .before .args) .stream .now) (length ((c .before .before .before .before .before .before .before .before .before .before .before .before .before .before .before .before .before .before .args) .stream .now)) (read ((c .before .before .before .before .before .before .before .before .before .before .before .before .before .before .before .before .before .before .args) .stream .now) (ranks ((c .before .before .before .before .before .before .before .before .before .before .before .before .before .before .before .before .before .before .args) .ranking)) 0 (readers ((c .before .before .before .before .before .before .before .before .before .before .before .before .before .before .before .before .before .before .args) .stream .now) (ranks ((c .before .before .before .before .before .before .before .before .before .before .before .before .before .before .before .before .before .before .args) .ranking)) ((c .before .before .before .before .before .before .before .before .before .before .before .before .before .before .before .before .before .before .args) .g)) (hold (((c .before .before .before .before .before .before .before .before .before .before .before .before .before .before .before .before .before .before .args) .c) .place) (((c .before .before .before .before .before .before .before .before .before .before .d) .given .0 .0) .place) (y .0 .trees)) (on ahead (37 ∷ 48 ∷ []) (node 16 back opening (held target 3 ⨾ plus 1 ⨾ P.assigned)) (node 15 back opening (held call′ 4))))) ((c .before .before .before .before .before .before .before .before .before .before .d) .given .0 .0) (37 ∷ 48 ∷ []) (node 16 back opening (held target 3 ⨾ plus 1 ⨾ P.assigned)) (node 15 back opening (held call′ 4)) (sym ((c .before .before .before .before .before .before .before .before .look-ahead) .ensures) ∙ (c .before .before .before .before .before .before .t) .given .1) (⊎-elim (λ w. among (37 ∷ 48 ∷ []) (w .2 .left)) (λ w. among (37 ∷ 48 ∷ []) (w .left)) ((c .before .before .before .if1) .came)) in
     let sh = suffixed-fits ((c .before .before .before .before .before .before .before .before .before .before .before .before .before .before .before .before .before .before .args) .stream .now) ((c .before .before .before .before .before .before .before .before .before .before .before .before .before .before .before .before .before .before .args) .ranking) ((c .before .before .before .before .before .before .before .before .before .before .before .before .before .before .before .before .before .before .args) .g) ((c .before .before .before .before .before .before .before .before .before .before .before .before .before .before .before .before .before .before .args) .c) target (y .0) (y .1) ∙ sym ((c .before .before .is-target) .ensures) in
-    o ∙ ap (wrap ((c .before .before .before .before .before .before .before .before .before .before .before .before .before .before .before .before .before .before .args) .stream .now) 16 opening (((c .before .before .before .before .before .before .before .before .before .before .before .before .before .before .before .before .before .before .args) .c) .place)) (stop (read ((c .before .before .before .before .before .before .before .before .before .before .before .before .before .before .before .before .before .before .args) .stream .now) (ranks ((c .before .before .before .before .before .before .before .before .before .before .before .before .before .before .before .before .before .before .args) .ranking)) 0 (readers ((c .before .before .before .before .before .before .before .before .before .before .before .before .before .before .before .before .before .before .args) .stream .now) (ranks ((c .before .before .before .before .before .before .before .before .before .before .before .before .before .before .before .before .before .before .args) .ranking)) ((c .before .before .before .before .before .before .before .before .before .before .before .before .before .before .before .before .before .before .args) .g)) (hold (((c .before .before .before .before .before .before .before .before .before .before .before .before .before .before .before .before .before .before .args) .c) .place) (((c .before .before .before .before .before .before .before .before .before .before .d) .given .0 .0) .place) (y .0 .trees)) (plus 1 ⨾ P.assigned) (loop ((c .before .before .before .before .before .before .before .before .before .before .before .before .before .before .before .before .before .before .args) .stream .now) (length ((c .before .before .before .before .before .before .before .before .before .before .before .before .before .before .before .before .before .before .args) .stream .now)) (read ((c .before .before .before .before .before .before .before .before .before .before .before .before .before .before .before .before .before .before .args) .stream .now) (ranks ((c .before .before .before .before .before .before .before .before .before .before .before .before .before .before .before .before .before .before .args) .ranking)) 0 (readers ((c .before .before .before .before .before .before .before .before .before .before .before .before .before .before .before .before .before .before .args) .stream .now) (ranks ((c .before .before .before .before .before .before .before .before .before .before .before .before .before .before .before .before .before .before .args) .ranking)) ((c .before .before .before .before .before .before .before .before .before .before .before .before .before .before .before .before .before .before .args) .g)) (hold (((c .before .before .before .before .before .before .before .before .before .before .before .before .before .before .before .before .before .before .args) .c) .place) (((c .before .before .before .before .before .before .before .before .before .before .d) .given .0 .0) .place) (y .0 .trees)) (on ahead (37 ∷ 48 ∷ []) (node 16 back opening (held target 3 ⨾ plus 1 ⨾ P.assigned)) (node 15 back opening (held call′ 4)))))) (keep-fail target (record { number = 3; line = lineAt ((c .before .before .before .before .before .before .before .before .before .before .before .before .before .before .before .before .before .before .args) .stream .now) (((c .before .before .before .before .before .before .before .before .before .before .d) .given .0 .0) .place); found = 0; expected = 0 }) refl (held-at (y .0) ((c .before .before .before .before .before .before .t) .given .0 .1 .0) p) (sh ∙ not-true ((c .before .before .is-target) .result) ((c .before .if3) .taken))))
+    o ∙ ap (wrap ((c .before .before .before .before .before .before .before .before .before .before .before .before .before .before .before .before .before .before .args) .stream .now) 16 opening (((c .before .before .before .before .before .before .before .before .before .before .before .before .before .before .before .before .before .before .args) .c) .place)) (stop (read ((c .before .before .before .before .before .before .before .before .before .before .before .before .before .before .before .before .before .before .args) .stream .now) (ranks ((c .before .before .before .before .before .before .before .before .before .before .before .before .before .before .before .before .before .before .args) .ranking)) 0 (readers ((c .before .before .before .before .before .before .before .before .before .before .before .before .before .before .before .before .before .before .args) .stream .now) (ranks ((c .before .before .before .before .before .before .before .before .before .before .before .before .before .before .before .before .before .before .args) .ranking)) ((c .before .before .before .before .before .before .before .before .before .before .before .before .before .before .before .before .before .before .args) .g)) (hold (((c .before .before .before .before .before .before .before .before .before .before .before .before .before .before .before .before .before .before .args) .c) .place) (((c .before .before .before .before .before .before .before .before .before .before .d) .given .0 .0) .place) (y .0 .trees)) (plus 1 ⨾ P.assigned) (loop ((c .before .before .before .before .before .before .before .before .before .before .before .before .before .before .before .before .before .before .args) .stream .now) (length ((c .before .before .before .before .before .before .before .before .before .before .before .before .before .before .before .before .before .before .args) .stream .now)) (read ((c .before .before .before .before .before .before .before .before .before .before .before .before .before .before .before .before .before .before .args) .stream .now) (ranks ((c .before .before .before .before .before .before .before .before .before .before .before .before .before .before .before .before .before .before .args) .ranking)) 0 (readers ((c .before .before .before .before .before .before .before .before .before .before .before .before .before .before .before .before .before .before .args) .stream .now) (ranks ((c .before .before .before .before .before .before .before .before .before .before .before .before .before .before .before .before .before .before .args) .ranking)) ((c .before .before .before .before .before .before .before .before .before .before .before .before .before .before .before .before .before .before .args) .g)) (hold (((c .before .before .before .before .before .before .before .before .before .before .before .before .before .before .before .before .before .before .args) .c) .place) (((c .before .before .before .before .before .before .before .before .before .before .d) .given .0 .0) .place) (y .0 .trees)) (on ahead (37 ∷ 48 ∷ []) (node 16 back opening (held target 3 ⨾ plus 1 ⨾ P.assigned)) (node 15 back opening (held call′ 4)))))) (keep-fail target (record { number = 3; line = lineAt ((c .before .before .before .before .before .before .before .before .before .before .before .before .before .before .before .before .before .before .args) .stream .now) (((c .before .before .before .before .before .before .before .before .before .before .d) .given .0 .0) .place); found = 0; expected = 0 }) refl (held-at (y .0) ((c .before .before .before .before .before .before .t) .given .0 .1 .0) p p′) (sh ∙ not-true ((c .before .before .is-target) .result) ((c .before .if3) .taken))))
     ∙ ap (λ (z : ℕ). fail (record { number = 3; line = z; found = 0; expected = 0 })) (sym ((saw-line ((c .before .before .before .before .before .before .before .before .before .before .before .before .before .before .before .before .before .before .args) .stream .now) ((c .before .before .before .before .before .before .before .before .before .before .d) .given .0 .0) (sym ((c .before .before .before .before .before .before .before .before .look-ahead) .ensures) ∙ (c .before .before .before .before .before .before .t) .given .1)) ∙ ap (lineAt ((c .before .before .before .before .before .before .before .before .before .before .before .before .before .before .before .before .before .before .args) .stream .now)) p)) ∙ ap fail (sym ((c .misfit) .ensures))
 
 pub estat-assign-requires : (t : ℕ) → estat-lts.Need-assign-requires (
@@ -398,6 +400,7 @@ pub estat-assign-requires : (t : ℕ) → estat-lts.Need-assign-requires (
 estat-assign-requires t c κs =
     let y = rw ((c .before .before .before .before .before .before .before .before .before .before .d) .given .1) at ((c .before .before .before .before .before .before .before .before .before .before .before .before .before .before .suffixed) .ensures) in
     let p = look-place ((c .before .before .before .before .before .before .before .before .before .before .before .before .before .before .before .before .before .before .args) .stream .now) ((c .before .before .before .before .before .before .before .before .before .before .d) .given .0 .0) (sym ((c .before .before .before .before .before .before .before .before .look-ahead) .ensures) ∙ (c .before .before .before .before .before .before .t) .given .1) in
+    let p′ = look-note ((c .before .before .before .before .before .before .before .before .before .before .before .before .before .before .before .before .before .before .args) .stream .now) ((c .before .before .before .before .before .before .before .before .before .before .d) .given .0 .0) (sym ((c .before .before .before .before .before .before .before .before .look-ahead) .ensures) ∙ (c .before .before .before .before .before .before .t) .given .1) in
     (omega (arith, (c .before .before .before .before .before .before .before .before .before .before .before .before .before .before .before .before .before .before .pre) .0), (ready-seen (ready-at (((c .before .before .before .before .before .before .before .before .before .before .before .before .before .before .before .before .before .before .pre) .1 .0) .formed) (y .0) (omega arith)) p, (saw-line ((c .before .before .before .before .before .before .before .before .before .before .before .before .before .before .before .before .before .before .args) .stream .now) ((c .before .before .before .before .before .before .before .before .before .before .d) .given .0 .0) (sym ((c .before .before .before .before .before .before .before .before .look-ahead) .ensures) ∙ (c .before .before .before .before .before .before .t) .given .1))))
 
 pub estat-enum-known-e-3 : (t : ℕ) → estat-lts.Need-enum-known-e-3 (
@@ -568,8 +571,8 @@ pub estat-returns-4 : (t : ℕ) → estat-lts.Need-returns-4 (
 unfolding read exprstat
 estat-returns-4 t c =
     let y = rw ((c .before .before .before .before .before .before .before .before .before .before .d) .given .1) at ((c .before .before .before .before .before .before .before .before .before .before .before .before .before .before .suffixed) .ensures) in
-    moved ((c .before .before .before .before .before .before .before .before .before .before .before .before .before .before .before .before .before .before .args) .stream .now) ((c .before .before .before .before .before .before .before .before .before .before .before .before .before .before .before .before .before .before .args) .used) 0 ((c .before .before .before .before .before .before .before .before .before .before .before .before .before .before .before .before .before .before .args) .nodes .now) ((c .before .before .calling) .last .0) ((c .before .before .calling) .result) (leads-is (λ t q. loop ((c .before .before .before .before .before .before .before .before .before .before .before .before .before .before .before .before .before .before .args) .stream .now) (suc (length ((c .before .before .before .before .before .before .before .before .before .before .before .before .before .before .before .before .before .before .args) .stream .now))) (read ((c .before .before .before .before .before .before .before .before .before .before .before .before .before .before .before .before .before .before .args) .stream .now) (ranks ((c .before .before .before .before .before .before .before .before .before .before .before .before .before .before .before .before .before .before .args) .ranking)) 0 (readers ((c .before .before .before .before .before .before .before .before .before .before .before .before .before .before .before .before .before .before .args) .stream .now) (ranks ((c .before .before .before .before .before .before .before .before .before .before .before .before .before .before .before .before .before .before .args) .ranking)) ((c .before .before .before .before .before .before .before .before .before .before .before .before .before .before .before .before .before .before .args) .g)) (hold (((c .before .before .before .before .before .before .before .before .before .before .before .before .before .before .before .before .before .before .args) .c) .place) q t) (on ahead (37 ∷ 48 ∷ []) (node 16 back opening (held target 3 ⨾ plus 1 ⨾ P.assigned)) (node 15 back opening (held call′ 4)))) q) (y .0) ∙ end-out ((c .before .before .before .before .before .before .before .before .before .before .before .before .before .before .before .before .before .before .args) .stream .now) (ranks ((c .before .before .before .before .before .before .before .before .before .before .before .before .before .before .before .before .before .before .args) .ranking)) 0 (readers ((c .before .before .before .before .before .before .before .before .before .before .before .before .before .before .before .before .before .before .args) .stream .now) (ranks ((c .before .before .before .before .before .before .before .before .before .before .before .before .before .before .before .before .before .before .args) .ranking)) ((c .before .before .before .before .before .before .before .before .before .before .before .before .before .before .before .before .before .before .args) .g)) (hold (((c .before .before .before .before .before .before .before .before .before .before .before .before .before .before .before .before .before .before .args) .c) .place) (((c .before .before .before .before .before .before .before .before .before .before .d) .given .0 .0) .place) (y .0 .trees)) (loop ((c .before .before .before .before .before .before .before .before .before .before .before .before .before .before .before .before .before .before .args) .stream .now) (length ((c .before .before .before .before .before .before .before .before .before .before .before .before .before .before .before .before .before .before .args) .stream .now)) (read ((c .before .before .before .before .before .before .before .before .before .before .before .before .before .before .before .before .before .before .args) .stream .now) (ranks ((c .before .before .before .before .before .before .before .before .before .before .before .before .before .before .before .before .before .before .args) .ranking)) 0 (readers ((c .before .before .before .before .before .before .before .before .before .before .before .before .before .before .before .before .before .before .args) .stream .now) (ranks ((c .before .before .before .before .before .before .before .before .before .before .before .before .before .before .before .before .before .before .args) .ranking)) ((c .before .before .before .before .before .before .before .before .before .before .before .before .before .before .before .before .before .before .args) .g)) (hold (((c .before .before .before .before .before .before .before .before .before .before .before .before .before .before .before .before .before .before .args) .c) .place) (((c .before .before .before .before .before .before .before .before .before .before .d) .given .0 .0) .place) (y .0 .trees)) (on ahead (37 ∷ 48 ∷ []) (node 16 back opening (held target 3 ⨾ plus 1 ⨾ P.assigned)) (node 15 back opening (held call′ 4))))) ((c .before .before .before .before .before .before .before .before .before .before .d) .given .0 .0) (37 ∷ 48 ∷ []) (node 16 back opening (held target 3 ⨾ plus 1 ⨾ P.assigned)) (node 15 back opening (held call′ 4)) (sym ((c .before .before .before .before .before .before .before .before .look-ahead) .ensures) ∙ (c .before .before .before .before .before .before .e2) .given .1) refl) (omega arith)
-    (called ((c .before .before .before .before .before .before .before .before .before .before .before .before .before .before .before .before .before .before .args) .used) ((c .before .before .before .before .before .before .before .before .before .before .d) .given .0 .1 .1 .0) (((c .before .before .before .before .before .before .before .before .before .before .before .before .before .before .before .before .before .before .args) .c) .place) ((c .before .before .before .before .before .before .before .before .before .before .before .before .before .before .before .before .before .before .args) .line) ((c .before .before .before .before .line-at) .result) ((c .before .before .calling) .last .0) (y .0) ((c .before .before .before .before .before .before .e2) .given .0 .0) (end-place ((c .before .before .before .before .before .before .before .before .before .before .before .before .before .before .before .before .before .before .args) .stream .now) ((c .before .before .before .before .before .before .before .before .before .before .d) .given .0 .0) (sym ((c .before .before .before .before .before .before .before .before .look-ahead) .ensures) ∙ (c .before .before .before .before .before .before .e2) .given .1)) (suffixed-fits ((c .before .before .before .before .before .before .before .before .before .before .before .before .before .before .before .before .before .before .args) .stream .now) ((c .before .before .before .before .before .before .before .before .before .before .before .before .before .before .before .before .before .before .args) .ranking) ((c .before .before .before .before .before .before .before .before .before .before .before .before .before .before .before .before .before .before .args) .g) ((c .before .before .before .before .before .before .before .before .before .before .before .before .before .before .before .before .before .before .args) .c) call′ (y .0) (y .1)) ((c .before .before .before .before .before .before .before .before .before .before .before .before .before .before .before .before .before .before .pre) .1 .1) ((c .before .before .before .before .line-at) .ensures) ((c .before .before .calling) .result) ((c .before .before .calling) .ensures))
+    moved ((c .before .before .before .before .before .before .before .before .before .before .before .before .before .before .before .before .before .before .args) .stream .now) (still (((c .before .before .before .before .before .before .before .before .before .before .before .before .before .before .before .before .before .before .args) .c) .note)) ((c .before .before .before .before .before .before .before .before .before .before .before .before .before .before .before .before .before .before .args) .used) 0 ((c .before .before .before .before .before .before .before .before .before .before .before .before .before .before .before .before .before .before .args) .nodes .now) ((c .before .before .calling) .last .0) ((c .before .before .calling) .result) (leads-is (λ t q. loop ((c .before .before .before .before .before .before .before .before .before .before .before .before .before .before .before .before .before .before .args) .stream .now) (suc (length ((c .before .before .before .before .before .before .before .before .before .before .before .before .before .before .before .before .before .before .args) .stream .now))) (read ((c .before .before .before .before .before .before .before .before .before .before .before .before .before .before .before .before .before .before .args) .stream .now) (ranks ((c .before .before .before .before .before .before .before .before .before .before .before .before .before .before .before .before .before .before .args) .ranking)) 0 (readers ((c .before .before .before .before .before .before .before .before .before .before .before .before .before .before .before .before .before .before .args) .stream .now) (ranks ((c .before .before .before .before .before .before .before .before .before .before .before .before .before .before .before .before .before .before .args) .ranking)) ((c .before .before .before .before .before .before .before .before .before .before .before .before .before .before .before .before .before .before .args) .g)) (hold (((c .before .before .before .before .before .before .before .before .before .before .before .before .before .before .before .before .before .before .args) .c) .place) q t) (on ahead (37 ∷ 48 ∷ []) (node 16 back opening (held target 3 ⨾ plus 1 ⨾ P.assigned)) (node 15 back opening (held call′ 4)))) q) (y .0) ∙ end-out ((c .before .before .before .before .before .before .before .before .before .before .before .before .before .before .before .before .before .before .args) .stream .now) (ranks ((c .before .before .before .before .before .before .before .before .before .before .before .before .before .before .before .before .before .before .args) .ranking)) 0 (readers ((c .before .before .before .before .before .before .before .before .before .before .before .before .before .before .before .before .before .before .args) .stream .now) (ranks ((c .before .before .before .before .before .before .before .before .before .before .before .before .before .before .before .before .before .before .args) .ranking)) ((c .before .before .before .before .before .before .before .before .before .before .before .before .before .before .before .before .before .before .args) .g)) (hold (((c .before .before .before .before .before .before .before .before .before .before .before .before .before .before .before .before .before .before .args) .c) .place) (((c .before .before .before .before .before .before .before .before .before .before .d) .given .0 .0) .place) (y .0 .trees)) (loop ((c .before .before .before .before .before .before .before .before .before .before .before .before .before .before .before .before .before .before .args) .stream .now) (length ((c .before .before .before .before .before .before .before .before .before .before .before .before .before .before .before .before .before .before .args) .stream .now)) (read ((c .before .before .before .before .before .before .before .before .before .before .before .before .before .before .before .before .before .before .args) .stream .now) (ranks ((c .before .before .before .before .before .before .before .before .before .before .before .before .before .before .before .before .before .before .args) .ranking)) 0 (readers ((c .before .before .before .before .before .before .before .before .before .before .before .before .before .before .before .before .before .before .args) .stream .now) (ranks ((c .before .before .before .before .before .before .before .before .before .before .before .before .before .before .before .before .before .before .args) .ranking)) ((c .before .before .before .before .before .before .before .before .before .before .before .before .before .before .before .before .before .before .args) .g)) (hold (((c .before .before .before .before .before .before .before .before .before .before .before .before .before .before .before .before .before .before .args) .c) .place) (((c .before .before .before .before .before .before .before .before .before .before .d) .given .0 .0) .place) (y .0 .trees)) (on ahead (37 ∷ 48 ∷ []) (node 16 back opening (held target 3 ⨾ plus 1 ⨾ P.assigned)) (node 15 back opening (held call′ 4))))) ((c .before .before .before .before .before .before .before .before .before .before .d) .given .0 .0) (37 ∷ 48 ∷ []) (node 16 back opening (held target 3 ⨾ plus 1 ⨾ P.assigned)) (node 15 back opening (held call′ 4)) (sym ((c .before .before .before .before .before .before .before .before .look-ahead) .ensures) ∙ (c .before .before .before .before .before .before .e2) .given .1) refl) (omega arith)
+    (called ((c .before .before .before .before .before .before .before .before .before .before .before .before .before .before .before .before .before .before .args) .used) ((c .before .before .before .before .before .before .before .before .before .before .d) .given .0 .1 .1 .0) (((c .before .before .before .before .before .before .before .before .before .before .before .before .before .before .before .before .before .before .args) .c) .place) ((c .before .before .before .before .before .before .before .before .before .before .before .before .before .before .before .before .before .before .args) .line) ((c .before .before .before .before .line-at) .result) ((c .before .before .calling) .last .0) (y .0) ((c .before .before .before .before .before .before .e2) .given .0 .0) (end-place ((c .before .before .before .before .before .before .before .before .before .before .before .before .before .before .before .before .before .before .args) .stream .now) ((c .before .before .before .before .before .before .before .before .before .before .d) .given .0 .0) (sym ((c .before .before .before .before .before .before .before .before .look-ahead) .ensures) ∙ (c .before .before .before .before .before .before .e2) .given .1)) (end-note ((c .before .before .before .before .before .before .before .before .before .before .before .before .before .before .before .before .before .before .args) .stream .now) ((c .before .before .before .before .before .before .before .before .before .before .d) .given .0 .0) (sym ((c .before .before .before .before .before .before .before .before .look-ahead) .ensures) ∙ (c .before .before .before .before .before .before .e2) .given .1)) (suffixed-fits ((c .before .before .before .before .before .before .before .before .before .before .before .before .before .before .before .before .before .before .args) .stream .now) ((c .before .before .before .before .before .before .before .before .before .before .before .before .before .before .before .before .before .before .args) .ranking) ((c .before .before .before .before .before .before .before .before .before .before .before .before .before .before .before .before .before .before .args) .g) ((c .before .before .before .before .before .before .before .before .before .before .before .before .before .before .before .before .before .before .args) .c) call′ (y .0) (y .1)) ((c .before .before .before .before .before .before .before .before .before .before .before .before .before .before .before .before .before .before .pre) .1 .1) ((c .before .before .before .before .line-at) .ensures) ((c .before .before .calling) .result) ((c .before .before .calling) .ensures))
 
 pub estat-same-length-5 : (t : ℕ) → estat-lts.Need-same-length-5 (
   suffixed-below t,
@@ -613,9 +616,10 @@ unfolding read exprstat suffixed′ suffix′ primary′ args′ table′ field�
 estat-returns-5 t c =
     let y = rw ((c .before .before .before .before .before .before .before .before .before .before .before .before .before .before .before .before .d) .given .1) at ((c .before .before .before .before .before .before .before .before .before .before .before .before .before .before .before .before .before .before .before .before .suffixed) .ensures) in
     let p = look-place ((c .before .before .before .before .before .before .before .before .before .before .before .before .before .before .before .before .before .before .before .before .before .before .before .before .args) .stream .now) ((c .before .before .before .before .before .before .before .before .before .before .before .before .before .before .before .before .d) .given .0 .0) (sym ((c .before .before .before .before .before .before .before .before .before .before .before .before .before .before .look-ahead) .ensures) ∙ (c .before .before .before .before .before .before .before .before .before .before .before .before .t) .given .1) in
+    let p′ = look-note ((c .before .before .before .before .before .before .before .before .before .before .before .before .before .before .before .before .before .before .before .before .before .before .before .before .args) .stream .now) ((c .before .before .before .before .before .before .before .before .before .before .before .before .before .before .before .before .d) .given .0 .0) (sym ((c .before .before .before .before .before .before .before .before .before .before .before .before .before .before .look-ahead) .ensures) ∙ (c .before .before .before .before .before .before .before .before .before .before .before .before .t) .given .1) in
     let o = leads-is (λ t q. loop ((c .before .before .before .before .before .before .before .before .before .before .before .before .before .before .before .before .before .before .before .before .before .before .before .before .args) .stream .now) (suc (length ((c .before .before .before .before .before .before .before .before .before .before .before .before .before .before .before .before .before .before .before .before .before .before .before .before .args) .stream .now))) (read ((c .before .before .before .before .before .before .before .before .before .before .before .before .before .before .before .before .before .before .before .before .before .before .before .before .args) .stream .now) (ranks ((c .before .before .before .before .before .before .before .before .before .before .before .before .before .before .before .before .before .before .before .before .before .before .before .before .args) .ranking)) 0 (readers ((c .before .before .before .before .before .before .before .before .before .before .before .before .before .before .before .before .before .before .before .before .before .before .before .before .args) .stream .now) (ranks ((c .before .before .before .before .before .before .before .before .before .before .before .before .before .before .before .before .before .before .before .before .before .before .before .before .args) .ranking)) ((c .before .before .before .before .before .before .before .before .before .before .before .before .before .before .before .before .before .before .before .before .before .before .before .before .args) .g)) (hold (((c .before .before .before .before .before .before .before .before .before .before .before .before .before .before .before .before .before .before .before .before .before .before .before .before .args) .c) .place) q t) (on ahead (37 ∷ 48 ∷ []) (node 16 back opening (held target 3 ⨾ plus 1 ⨾ P.assigned)) (node 15 back opening (held call′ 4)))) q) (y .0) ∙ look-in ((c .before .before .before .before .before .before .before .before .before .before .before .before .before .before .before .before .before .before .before .before .before .before .before .before .args) .stream .now) (ranks ((c .before .before .before .before .before .before .before .before .before .before .before .before .before .before .before .before .before .before .before .before .before .before .before .before .args) .ranking)) 0 (readers ((c .before .before .before .before .before .before .before .before .before .before .before .before .before .before .before .before .before .before .before .before .before .before .before .before .args) .stream .now) (ranks ((c .before .before .before .before .before .before .before .before .before .before .before .before .before .before .before .before .before .before .before .before .before .before .before .before .args) .ranking)) ((c .before .before .before .before .before .before .before .before .before .before .before .before .before .before .before .before .before .before .before .before .before .before .before .before .args) .g)) (hold (((c .before .before .before .before .before .before .before .before .before .before .before .before .before .before .before .before .before .before .before .before .before .before .before .before .args) .c) .place) (((c .before .before .before .before .before .before .before .before .before .before .before .before .before .before .before .before .d) .given .0 .0) .place) (y .0 .trees)) (loop ((c .before .before .before .before .before .before .before .before .before .before .before .before .before .before .before .before .before .before .before .before .before .before .before .before .args) .stream .now) (length ((c .before .before .before .before .before .before .before .before .before .before .before .before .before .before .before .before .before .before .before .before .before .before .before .before .args) .stream .now)) (read ((c .before .before .before .before .before .before .before .before .before .before .before .before .before .before .before .before .before .before .before .before .before .before .before .before .args) .stream .now) (ranks ((c .before .before .before .before .before .before .before .before .before .before .before .before .before .before .before .before .before .before .before .before .before .before .before .before .args) .ranking)) 0 (readers ((c .before .before .before .before .before .before .before .before .before .before .before .before .before .before .before .before .before .before .before .before .before .before .before .before .args) .stream .now) (ranks ((c .before .before .before .before .before .before .before .before .before .before .before .before .before .before .before .before .before .before .before .before .before .before .before .before .args) .ranking)) ((c .before .before .before .before .before .before .before .before .before .before .before .before .before .before .before .before .before .before .before .before .before .before .before .before .args) .g)) (hold (((c .before .before .before .before .before .before .before .before .before .before .before .before .before .before .before .before .before .before .before .before .before .before .before .before .args) .c) .place) (((c .before .before .before .before .before .before .before .before .before .before .before .before .before .before .before .before .d) .given .0 .0) .place) (y .0 .trees)) (on ahead (37 ∷ 48 ∷ []) (node 16 back opening (held target 3 ⨾ plus 1 ⨾ P.assigned)) (node 15 back opening (held call′ 4))))) ((c .before .before .before .before .before .before .before .before .before .before .before .before .before .before .before .before .d) .given .0 .0) (37 ∷ 48 ∷ []) (node 16 back opening (held target 3 ⨾ plus 1 ⨾ P.assigned)) (node 15 back opening (held call′ 4)) (sym ((c .before .before .before .before .before .before .before .before .before .before .before .before .before .before .look-ahead) .ensures) ∙ (c .before .before .before .before .before .before .before .before .before .before .before .before .t) .given .1) (⊎-elim (λ w. among (37 ∷ 48 ∷ []) (w .2 .left)) (λ w. among (37 ∷ 48 ∷ []) (w .left)) ((c .before .before .before .before .before .before .before .before .before .if1) .came)) in
     let sh = suffixed-fits ((c .before .before .before .before .before .before .before .before .before .before .before .before .before .before .before .before .before .before .before .before .before .before .before .before .args) .stream .now) ((c .before .before .before .before .before .before .before .before .before .before .before .before .before .before .before .before .before .before .before .before .before .before .before .before .args) .ranking) ((c .before .before .before .before .before .before .before .before .before .before .before .before .before .before .before .before .before .before .before .before .before .before .before .before .args) .g) ((c .before .before .before .before .before .before .before .before .before .before .before .before .before .before .before .before .before .before .before .before .before .before .before .before .args) .c) target (y .0) (y .1) ∙ sym ((c .before .before .before .before .before .before .before .before .is-target) .ensures) in
-    let f2 = keep-fine target (record { number = 3; line = lineAt ((c .before .before .before .before .before .before .before .before .before .before .before .before .before .before .before .before .before .before .before .before .before .before .before .before .args) .stream .now) (((c .before .before .before .before .before .before .before .before .before .before .before .before .before .before .before .before .d) .given .0 .0) .place); found = 0; expected = 0 }) refl (held-at (y .0) ((c .before .before .before .before .before .before .before .before .before .before .before .before .t) .given .0 .1 .0) p) (sh ∙ not-false ((c .before .before .before .before .before .before .before .before .is-target) .result) ((c .before .before .before .before .before .before .before .if3) .left)) in
+    let f2 = keep-fine target (record { number = 3; line = lineAt ((c .before .before .before .before .before .before .before .before .before .before .before .before .before .before .before .before .before .before .before .before .before .before .before .before .args) .stream .now) (((c .before .before .before .before .before .before .before .before .before .before .before .before .before .before .before .before .d) .given .0 .0) .place); found = 0; expected = 0 }) refl (held-at (y .0) ((c .before .before .before .before .before .before .before .before .before .before .before .before .t) .given .0 .1 .0) p p′) (sh ∙ not-false ((c .before .before .before .before .before .before .before .before .is-target) .result) ((c .before .before .before .before .before .before .before .if3) .left)) in
     let st = settled-end ((c .before .before .before .before .before .before .before .before .before .before .before .before .before .before .before .before .before .before .before .before .before .before .before .before .args) .stream .now) ((c .before .before .before .before .before .before .before .before .before .before .before .before .before .before .before .before .before .before .before .before .before .before .before .before .args) .ranking) 0 ((c .before .before .before .before .before .before .before .before .before .before .before .before .before .before .before .before .before .before .before .before .before .before .before .before .args) .g) (hold (((c .before .before .before .before .before .before .before .before .before .before .before .before .before .before .before .before .before .before .before .before .before .before .before .before .args) .c) .place) (((c .before .before .before .before .before .before .before .before .before .before .before .before .before .before .before .before .d) .given .0 .0) .place) (y .0 .trees)) (loop ((c .before .before .before .before .before .before .before .before .before .before .before .before .before .before .before .before .before .before .before .before .before .before .before .before .args) .stream .now) (length ((c .before .before .before .before .before .before .before .before .before .before .before .before .before .before .before .before .before .before .before .before .before .before .before .before .args) .stream .now)) (read ((c .before .before .before .before .before .before .before .before .before .before .before .before .before .before .before .before .before .before .before .before .before .before .before .before .args) .stream .now) (ranks ((c .before .before .before .before .before .before .before .before .before .before .before .before .before .before .before .before .before .before .before .before .before .before .before .before .args) .ranking)) 0 (readers ((c .before .before .before .before .before .before .before .before .before .before .before .before .before .before .before .before .before .before .before .before .before .before .before .before .args) .stream .now) (ranks ((c .before .before .before .before .before .before .before .before .before .before .before .before .before .before .before .before .before .before .before .before .before .before .before .before .args) .ranking)) ((c .before .before .before .before .before .before .before .before .before .before .before .before .before .before .before .before .before .before .before .before .before .before .before .before .args) .g)) (hold (((c .before .before .before .before .before .before .before .before .before .before .before .before .before .before .before .before .before .before .before .before .before .before .before .before .args) .c) .place) (((c .before .before .before .before .before .before .before .before .before .before .before .before .before .before .before .before .d) .given .0 .0) .place) (y .0 .trees)) (on ahead (37 ∷ 48 ∷ []) (node 16 back opening (held target 3 ⨾ plus 1 ⨾ P.assigned)) (node 15 back opening (held call′ 4))))) P.assigned refl ((c .before .before .before .before .before .before .before .before .before .before .before .before .t) .given .0 .1 .0) ∙ ap (λ (z : ℕ). under ((c .before .before .before .before .before .before .before .before .before .before .before .before .before .before .before .before .before .before .before .before .before .before .before .before .args) .stream .now) ((c .before .before .before .before .before .before .before .before .before .before .before .before .before .before .before .before .before .before .before .before .before .before .before .before .args) .ranking) 0 ((c .before .before .before .before .before .before .before .before .before .before .before .before .before .before .before .before .before .before .before .before .before .before .before .before .args) .g) z P.assigned (((c .before .before .before .before .before .before .before .before .before .before .before .before .t) .given .0 .1 .0) .place) (((c .before .before .before .before .before .before .before .before .before .before .before .before .t) .given .0 .1 .0) .mark)) (sym p) in
     o ∙ ap (wrap ((c .before .before .before .before .before .before .before .before .before .before .before .before .before .before .before .before .before .before .before .before .before .before .before .before .args) .stream .now) 16 opening (((c .before .before .before .before .before .before .before .before .before .before .before .before .before .before .before .before .before .before .before .before .before .before .before .before .args) .c) .place)) (past (read ((c .before .before .before .before .before .before .before .before .before .before .before .before .before .before .before .before .before .before .before .before .before .before .before .before .args) .stream .now) (ranks ((c .before .before .before .before .before .before .before .before .before .before .before .before .before .before .before .before .before .before .before .before .before .before .before .before .args) .ranking)) 0 (readers ((c .before .before .before .before .before .before .before .before .before .before .before .before .before .before .before .before .before .before .before .before .before .before .before .before .args) .stream .now) (ranks ((c .before .before .before .before .before .before .before .before .before .before .before .before .before .before .before .before .before .before .before .before .before .before .before .before .args) .ranking)) ((c .before .before .before .before .before .before .before .before .before .before .before .before .before .before .before .before .before .before .before .before .before .before .before .before .args) .g)) (hold (((c .before .before .before .before .before .before .before .before .before .before .before .before .before .before .before .before .before .before .before .before .before .before .before .before .args) .c) .place) (((c .before .before .before .before .before .before .before .before .before .before .before .before .before .before .before .before .d) .given .0 .0) .place) (y .0 .trees)) (plus 1 ⨾ P.assigned) (loop ((c .before .before .before .before .before .before .before .before .before .before .before .before .before .before .before .before .before .before .before .before .before .before .before .before .args) .stream .now) (length ((c .before .before .before .before .before .before .before .before .before .before .before .before .before .before .before .before .before .before .before .before .before .before .before .before .args) .stream .now)) (read ((c .before .before .before .before .before .before .before .before .before .before .before .before .before .before .before .before .before .before .before .before .before .before .before .before .args) .stream .now) (ranks ((c .before .before .before .before .before .before .before .before .before .before .before .before .before .before .before .before .before .before .before .before .before .before .before .before .args) .ranking)) 0 (readers ((c .before .before .before .before .before .before .before .before .before .before .before .before .before .before .before .before .before .before .before .before .before .before .before .before .args) .stream .now) (ranks ((c .before .before .before .before .before .before .before .before .before .before .before .before .before .before .before .before .before .before .before .before .before .before .before .before .args) .ranking)) ((c .before .before .before .before .before .before .before .before .before .before .before .before .before .before .before .before .before .before .before .before .before .before .before .before .args) .g)) (hold (((c .before .before .before .before .before .before .before .before .before .before .before .before .before .before .before .before .before .before .before .before .before .before .before .before .args) .c) .place) (((c .before .before .before .before .before .before .before .before .before .before .before .before .before .before .before .before .d) .given .0 .0) .place) (y .0 .trees)) (on ahead (37 ∷ 48 ∷ []) (node 16 back opening (held target 3 ⨾ plus 1 ⨾ P.assigned)) (node 15 back opening (held call′ 4)))))) f2 (ap (add none 1) (st ∙ rw ((c .before .e3) .given .1) at ((c .before .before .before .before .before .assign) .ensures))))
 
@@ -661,9 +665,10 @@ unfolding read exprstat suffixed′ suffix′ primary′ args′ table′ field�
 estat-returns-6 t c =
     let y = rw ((c .before .before .before .before .before .before .before .before .before .before .before .before .before .before .before .before .before .before .before .before .d) .given .1) at ((c .before .before .before .before .before .before .before .before .before .before .before .before .before .before .before .before .before .before .before .before .before .before .before .before .suffixed) .ensures) in
     let p = look-place ((c .before .before .before .before .before .before .before .before .before .before .before .before .before .before .before .before .before .before .before .before .before .before .before .before .before .before .before .before .args) .stream .now) ((c .before .before .before .before .before .before .before .before .before .before .before .before .before .before .before .before .before .before .before .before .d) .given .0 .0) (sym ((c .before .before .before .before .before .before .before .before .before .before .before .before .before .before .before .before .before .before .look-ahead) .ensures) ∙ (c .before .before .before .before .before .before .before .before .before .before .before .before .before .before .before .before .t) .given .1) in
+    let p′ = look-note ((c .before .before .before .before .before .before .before .before .before .before .before .before .before .before .before .before .before .before .before .before .before .before .before .before .before .before .before .before .args) .stream .now) ((c .before .before .before .before .before .before .before .before .before .before .before .before .before .before .before .before .before .before .before .before .d) .given .0 .0) (sym ((c .before .before .before .before .before .before .before .before .before .before .before .before .before .before .before .before .before .before .look-ahead) .ensures) ∙ (c .before .before .before .before .before .before .before .before .before .before .before .before .before .before .before .before .t) .given .1) in
     let o = leads-is (λ t q. loop ((c .before .before .before .before .before .before .before .before .before .before .before .before .before .before .before .before .before .before .before .before .before .before .before .before .before .before .before .before .args) .stream .now) (suc (length ((c .before .before .before .before .before .before .before .before .before .before .before .before .before .before .before .before .before .before .before .before .before .before .before .before .before .before .before .before .args) .stream .now))) (read ((c .before .before .before .before .before .before .before .before .before .before .before .before .before .before .before .before .before .before .before .before .before .before .before .before .before .before .before .before .args) .stream .now) (ranks ((c .before .before .before .before .before .before .before .before .before .before .before .before .before .before .before .before .before .before .before .before .before .before .before .before .before .before .before .before .args) .ranking)) 0 (readers ((c .before .before .before .before .before .before .before .before .before .before .before .before .before .before .before .before .before .before .before .before .before .before .before .before .before .before .before .before .args) .stream .now) (ranks ((c .before .before .before .before .before .before .before .before .before .before .before .before .before .before .before .before .before .before .before .before .before .before .before .before .before .before .before .before .args) .ranking)) ((c .before .before .before .before .before .before .before .before .before .before .before .before .before .before .before .before .before .before .before .before .before .before .before .before .before .before .before .before .args) .g)) (hold (((c .before .before .before .before .before .before .before .before .before .before .before .before .before .before .before .before .before .before .before .before .before .before .before .before .before .before .before .before .args) .c) .place) q t) (on ahead (37 ∷ 48 ∷ []) (node 16 back opening (held target 3 ⨾ plus 1 ⨾ P.assigned)) (node 15 back opening (held call′ 4)))) q) (y .0) ∙ look-in ((c .before .before .before .before .before .before .before .before .before .before .before .before .before .before .before .before .before .before .before .before .before .before .before .before .before .before .before .before .args) .stream .now) (ranks ((c .before .before .before .before .before .before .before .before .before .before .before .before .before .before .before .before .before .before .before .before .before .before .before .before .before .before .before .before .args) .ranking)) 0 (readers ((c .before .before .before .before .before .before .before .before .before .before .before .before .before .before .before .before .before .before .before .before .before .before .before .before .before .before .before .before .args) .stream .now) (ranks ((c .before .before .before .before .before .before .before .before .before .before .before .before .before .before .before .before .before .before .before .before .before .before .before .before .before .before .before .before .args) .ranking)) ((c .before .before .before .before .before .before .before .before .before .before .before .before .before .before .before .before .before .before .before .before .before .before .before .before .before .before .before .before .args) .g)) (hold (((c .before .before .before .before .before .before .before .before .before .before .before .before .before .before .before .before .before .before .before .before .before .before .before .before .before .before .before .before .args) .c) .place) (((c .before .before .before .before .before .before .before .before .before .before .before .before .before .before .before .before .before .before .before .before .d) .given .0 .0) .place) (y .0 .trees)) (loop ((c .before .before .before .before .before .before .before .before .before .before .before .before .before .before .before .before .before .before .before .before .before .before .before .before .before .before .before .before .args) .stream .now) (length ((c .before .before .before .before .before .before .before .before .before .before .before .before .before .before .before .before .before .before .before .before .before .before .before .before .before .before .before .before .args) .stream .now)) (read ((c .before .before .before .before .before .before .before .before .before .before .before .before .before .before .before .before .before .before .before .before .before .before .before .before .before .before .before .before .args) .stream .now) (ranks ((c .before .before .before .before .before .before .before .before .before .before .before .before .before .before .before .before .before .before .before .before .before .before .before .before .before .before .before .before .args) .ranking)) 0 (readers ((c .before .before .before .before .before .before .before .before .before .before .before .before .before .before .before .before .before .before .before .before .before .before .before .before .before .before .before .before .args) .stream .now) (ranks ((c .before .before .before .before .before .before .before .before .before .before .before .before .before .before .before .before .before .before .before .before .before .before .before .before .before .before .before .before .args) .ranking)) ((c .before .before .before .before .before .before .before .before .before .before .before .before .before .before .before .before .before .before .before .before .before .before .before .before .before .before .before .before .args) .g)) (hold (((c .before .before .before .before .before .before .before .before .before .before .before .before .before .before .before .before .before .before .before .before .before .before .before .before .before .before .before .before .args) .c) .place) (((c .before .before .before .before .before .before .before .before .before .before .before .before .before .before .before .before .before .before .before .before .d) .given .0 .0) .place) (y .0 .trees)) (on ahead (37 ∷ 48 ∷ []) (node 16 back opening (held target 3 ⨾ plus 1 ⨾ P.assigned)) (node 15 back opening (held call′ 4))))) ((c .before .before .before .before .before .before .before .before .before .before .before .before .before .before .before .before .before .before .before .before .d) .given .0 .0) (37 ∷ 48 ∷ []) (node 16 back opening (held target 3 ⨾ plus 1 ⨾ P.assigned)) (node 15 back opening (held call′ 4)) (sym ((c .before .before .before .before .before .before .before .before .before .before .before .before .before .before .before .before .before .before .look-ahead) .ensures) ∙ (c .before .before .before .before .before .before .before .before .before .before .before .before .before .before .before .before .t) .given .1) (⊎-elim (λ w. among (37 ∷ 48 ∷ []) (w .2 .left)) (λ w. among (37 ∷ 48 ∷ []) (w .left)) ((c .before .before .before .before .before .before .before .before .before .before .before .before .before .if1) .came)) in
     let sh = suffixed-fits ((c .before .before .before .before .before .before .before .before .before .before .before .before .before .before .before .before .before .before .before .before .before .before .before .before .before .before .before .before .args) .stream .now) ((c .before .before .before .before .before .before .before .before .before .before .before .before .before .before .before .before .before .before .before .before .before .before .before .before .before .before .before .before .args) .ranking) ((c .before .before .before .before .before .before .before .before .before .before .before .before .before .before .before .before .before .before .before .before .before .before .before .before .before .before .before .before .args) .g) ((c .before .before .before .before .before .before .before .before .before .before .before .before .before .before .before .before .before .before .before .before .before .before .before .before .before .before .before .before .args) .c) target (y .0) (y .1) ∙ sym ((c .before .before .before .before .before .before .before .before .before .before .before .before .is-target) .ensures) in
-    let f2 = keep-fine target (record { number = 3; line = lineAt ((c .before .before .before .before .before .before .before .before .before .before .before .before .before .before .before .before .before .before .before .before .before .before .before .before .before .before .before .before .args) .stream .now) (((c .before .before .before .before .before .before .before .before .before .before .before .before .before .before .before .before .before .before .before .before .d) .given .0 .0) .place); found = 0; expected = 0 }) refl (held-at (y .0) ((c .before .before .before .before .before .before .before .before .before .before .before .before .before .before .before .before .t) .given .0 .1 .0) p) (sh ∙ not-false ((c .before .before .before .before .before .before .before .before .before .before .before .before .is-target) .result) ((c .before .before .before .before .before .before .before .before .before .before .before .if3) .left)) in
+    let f2 = keep-fine target (record { number = 3; line = lineAt ((c .before .before .before .before .before .before .before .before .before .before .before .before .before .before .before .before .before .before .before .before .before .before .before .before .before .before .before .before .args) .stream .now) (((c .before .before .before .before .before .before .before .before .before .before .before .before .before .before .before .before .before .before .before .before .d) .given .0 .0) .place); found = 0; expected = 0 }) refl (held-at (y .0) ((c .before .before .before .before .before .before .before .before .before .before .before .before .before .before .before .before .t) .given .0 .1 .0) p p′) (sh ∙ not-false ((c .before .before .before .before .before .before .before .before .before .before .before .before .is-target) .result) ((c .before .before .before .before .before .before .before .before .before .before .before .if3) .left)) in
     let st = settled-end ((c .before .before .before .before .before .before .before .before .before .before .before .before .before .before .before .before .before .before .before .before .before .before .before .before .before .before .before .before .args) .stream .now) ((c .before .before .before .before .before .before .before .before .before .before .before .before .before .before .before .before .before .before .before .before .before .before .before .before .before .before .before .before .args) .ranking) 0 ((c .before .before .before .before .before .before .before .before .before .before .before .before .before .before .before .before .before .before .before .before .before .before .before .before .before .before .before .before .args) .g) (hold (((c .before .before .before .before .before .before .before .before .before .before .before .before .before .before .before .before .before .before .before .before .before .before .before .before .before .before .before .before .args) .c) .place) (((c .before .before .before .before .before .before .before .before .before .before .before .before .before .before .before .before .before .before .before .before .d) .given .0 .0) .place) (y .0 .trees)) (loop ((c .before .before .before .before .before .before .before .before .before .before .before .before .before .before .before .before .before .before .before .before .before .before .before .before .before .before .before .before .args) .stream .now) (length ((c .before .before .before .before .before .before .before .before .before .before .before .before .before .before .before .before .before .before .before .before .before .before .before .before .before .before .before .before .args) .stream .now)) (read ((c .before .before .before .before .before .before .before .before .before .before .before .before .before .before .before .before .before .before .before .before .before .before .before .before .before .before .before .before .args) .stream .now) (ranks ((c .before .before .before .before .before .before .before .before .before .before .before .before .before .before .before .before .before .before .before .before .before .before .before .before .before .before .before .before .args) .ranking)) 0 (readers ((c .before .before .before .before .before .before .before .before .before .before .before .before .before .before .before .before .before .before .before .before .before .before .before .before .before .before .before .before .args) .stream .now) (ranks ((c .before .before .before .before .before .before .before .before .before .before .before .before .before .before .before .before .before .before .before .before .before .before .before .before .before .before .before .before .args) .ranking)) ((c .before .before .before .before .before .before .before .before .before .before .before .before .before .before .before .before .before .before .before .before .before .before .before .before .before .before .before .before .args) .g)) (hold (((c .before .before .before .before .before .before .before .before .before .before .before .before .before .before .before .before .before .before .before .before .before .before .before .before .before .before .before .before .args) .c) .place) (((c .before .before .before .before .before .before .before .before .before .before .before .before .before .before .before .before .before .before .before .before .d) .given .0 .0) .place) (y .0 .trees)) (on ahead (37 ∷ 48 ∷ []) (node 16 back opening (held target 3 ⨾ plus 1 ⨾ P.assigned)) (node 15 back opening (held call′ 4))))) P.assigned refl ((c .before .before .before .before .before .before .before .before .before .before .before .before .before .before .before .before .t) .given .0 .1 .0) ∙ ap (λ (z : ℕ). under ((c .before .before .before .before .before .before .before .before .before .before .before .before .before .before .before .before .before .before .before .before .before .before .before .before .before .before .before .before .args) .stream .now) ((c .before .before .before .before .before .before .before .before .before .before .before .before .before .before .before .before .before .before .before .before .before .before .before .before .before .before .before .before .args) .ranking) 0 ((c .before .before .before .before .before .before .before .before .before .before .before .before .before .before .before .before .before .before .before .before .before .before .before .before .before .before .before .before .args) .g) z P.assigned (((c .before .before .before .before .before .before .before .before .before .before .before .before .before .before .before .before .t) .given .0 .1 .0) .place) (((c .before .before .before .before .before .before .before .before .before .before .before .before .before .before .before .before .t) .given .0 .1 .0) .mark)) (sym p) in
     let ya = rw ((c .before .before .before .before .before .f) .given .1) at ((c .before .before .before .before .before .before .before .before .before .assign) .ensures) in
-    rw ((c .before .before .close) .ensures .0) (alter o (over 16 opening (((c .before .before .before .before .before .before .before .before .before .before .before .before .before .before .before .before .before .before .before .before .before .before .before .before .before .before .before .before .args) .c) .place) ((c .before .before .before .before .before .before .before .before .before .before .before .before .before .before .before .before .before .before .before .before .before .before .before .before .before .before .before .before .args) .line) (revalue (omega arith) (both (read ((c .before .before .before .before .before .before .before .before .before .before .before .before .before .before .before .before .before .before .before .before .before .before .before .before .before .before .before .before .args) .stream .now) (ranks ((c .before .before .before .before .before .before .before .before .before .before .before .before .before .before .before .before .before .before .before .before .before .before .before .before .before .before .before .before .args) .ranking)) 0 (readers ((c .before .before .before .before .before .before .before .before .before .before .before .before .before .before .before .before .before .before .before .before .before .before .before .before .before .before .before .before .args) .stream .now) (ranks ((c .before .before .before .before .before .before .before .before .before .before .before .before .before .before .before .before .before .before .before .before .before .before .before .before .before .before .before .before .args) .ranking)) ((c .before .before .before .before .before .before .before .before .before .before .before .before .before .before .before .before .before .before .before .before .before .before .before .before .before .before .before .before .args) .g)) (hold (((c .before .before .before .before .before .before .before .before .before .before .before .before .before .before .before .before .before .before .before .before .before .before .before .before .before .before .before .before .args) .c) .place) (((c .before .before .before .before .before .before .before .before .before .before .before .before .before .before .before .before .before .before .before .before .d) .given .0 .0) .place) (y .0 .trees)) (plus 1 ⨾ P.assigned) (loop ((c .before .before .before .before .before .before .before .before .before .before .before .before .before .before .before .before .before .before .before .before .before .before .before .before .before .before .before .before .args) .stream .now) (length ((c .before .before .before .before .before .before .before .before .before .before .before .before .before .before .before .before .before .before .before .before .before .before .before .before .before .before .before .before .args) .stream .now)) (read ((c .before .before .before .before .before .before .before .before .before .before .before .before .before .before .before .before .before .before .before .before .before .before .before .before .before .before .before .before .args) .stream .now) (ranks ((c .before .before .before .before .before .before .before .before .before .before .before .before .before .before .before .before .before .before .before .before .before .before .before .before .before .before .before .before .args) .ranking)) 0 (readers ((c .before .before .before .before .before .before .before .before .before .before .before .before .before .before .before .before .before .before .before .before .before .before .before .before .before .before .before .before .args) .stream .now) (ranks ((c .before .before .before .before .before .before .before .before .before .before .before .before .before .before .before .before .before .before .before .before .before .before .before .before .before .before .before .before .args) .ranking)) ((c .before .before .before .before .before .before .before .before .before .before .before .before .before .before .before .before .before .before .before .before .before .before .before .before .before .before .before .before .args) .g)) (hold (((c .before .before .before .before .before .before .before .before .before .before .before .before .before .before .before .before .before .before .before .before .before .before .before .before .before .before .before .before .args) .c) .place) (((c .before .before .before .before .before .before .before .before .before .before .before .before .before .before .before .before .before .before .before .before .d) .given .0 .0) .place) (y .0 .trees)) (on ahead (37 ∷ 48 ∷ []) (node 16 back opening (held target 3 ⨾ plus 1 ⨾ P.assigned)) (node 15 back opening (held call′ 4)))))) f2 (weighed 1 (alter st (ya .0))) (omega arith))) ((c .before .before .close) .ensures .1) ((c .before .before .before .before .before .before .before .before .before .before .before .before .before .before .before .before .before .before .before .before .before .before .before .before .before .before .before .before .pre) .1 .1)))
+    rw ((c .before .before .close) .ensures .0) (alter o (over 16 opening (((c .before .before .before .before .before .before .before .before .before .before .before .before .before .before .before .before .before .before .before .before .before .before .before .before .before .before .before .before .args) .c) .place) ((c .before .before .before .before .before .before .before .before .before .before .before .before .before .before .before .before .before .before .before .before .before .before .before .before .before .before .before .before .args) .line) (refl, refl, refl) (revalue (omega arith) (both (read ((c .before .before .before .before .before .before .before .before .before .before .before .before .before .before .before .before .before .before .before .before .before .before .before .before .before .before .before .before .args) .stream .now) (ranks ((c .before .before .before .before .before .before .before .before .before .before .before .before .before .before .before .before .before .before .before .before .before .before .before .before .before .before .before .before .args) .ranking)) 0 (readers ((c .before .before .before .before .before .before .before .before .before .before .before .before .before .before .before .before .before .before .before .before .before .before .before .before .before .before .before .before .args) .stream .now) (ranks ((c .before .before .before .before .before .before .before .before .before .before .before .before .before .before .before .before .before .before .before .before .before .before .before .before .before .before .before .before .args) .ranking)) ((c .before .before .before .before .before .before .before .before .before .before .before .before .before .before .before .before .before .before .before .before .before .before .before .before .before .before .before .before .args) .g)) (hold (((c .before .before .before .before .before .before .before .before .before .before .before .before .before .before .before .before .before .before .before .before .before .before .before .before .before .before .before .before .args) .c) .place) (((c .before .before .before .before .before .before .before .before .before .before .before .before .before .before .before .before .before .before .before .before .d) .given .0 .0) .place) (y .0 .trees)) (plus 1 ⨾ P.assigned) (loop ((c .before .before .before .before .before .before .before .before .before .before .before .before .before .before .before .before .before .before .before .before .before .before .before .before .before .before .before .before .args) .stream .now) (length ((c .before .before .before .before .before .before .before .before .before .before .before .before .before .before .before .before .before .before .before .before .before .before .before .before .before .before .before .before .args) .stream .now)) (read ((c .before .before .before .before .before .before .before .before .before .before .before .before .before .before .before .before .before .before .before .before .before .before .before .before .before .before .before .before .args) .stream .now) (ranks ((c .before .before .before .before .before .before .before .before .before .before .before .before .before .before .before .before .before .before .before .before .before .before .before .before .before .before .before .before .args) .ranking)) 0 (readers ((c .before .before .before .before .before .before .before .before .before .before .before .before .before .before .before .before .before .before .before .before .before .before .before .before .before .before .before .before .args) .stream .now) (ranks ((c .before .before .before .before .before .before .before .before .before .before .before .before .before .before .before .before .before .before .before .before .before .before .before .before .before .before .before .before .args) .ranking)) ((c .before .before .before .before .before .before .before .before .before .before .before .before .before .before .before .before .before .before .before .before .before .before .before .before .before .before .before .before .args) .g)) (hold (((c .before .before .before .before .before .before .before .before .before .before .before .before .before .before .before .before .before .before .before .before .before .before .before .before .before .before .before .before .args) .c) .place) (((c .before .before .before .before .before .before .before .before .before .before .before .before .before .before .before .before .before .before .before .before .d) .given .0 .0) .place) (y .0 .trees)) (on ahead (37 ∷ 48 ∷ []) (node 16 back opening (held target 3 ⨾ plus 1 ⨾ P.assigned)) (node 15 back opening (held call′ 4)))))) f2 (weighed 1 (alter st (ya .0))) (omega arith))) ((c .before .before .close) .ensures .1) ((c .before .before .before .before .before .before .before .before .before .before .before .before .before .before .before .before .before .before .before .before .before .before .before .before .before .before .before .before .pre) .1 .1)))

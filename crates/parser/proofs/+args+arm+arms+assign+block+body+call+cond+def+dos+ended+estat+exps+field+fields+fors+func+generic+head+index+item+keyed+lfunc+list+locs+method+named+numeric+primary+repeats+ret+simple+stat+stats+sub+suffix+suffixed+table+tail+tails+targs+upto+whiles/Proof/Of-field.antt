@@ -23,7 +23,7 @@ use Rattle.grammar.specs.Term.{on}
 use Rattle.grammar.specs.Productions.{named}
 use Rattle.parser.specs.Contract.{again}
 use Rattle.parser.specs.Parts as P
-use Rattle.parser.proofs.Steps.{second-in, second-out, check-place, get-place}
+use Rattle.parser.proofs.Steps.{second-in, second-out, check-place, get-place, check-note, get-note}
 use Rattle.parser.proofs.Kit.{kept, ready-seen, moved}
 use Rattle.parser.proofs.Looks.{by-none, by-kind, by-others}
 use Rattle.grammar.specs.Productions.{field as field′}
@@ -182,7 +182,7 @@ pub field-returns-2 : (t : ℕ) → field-lts.Need-returns-2 (
   keyed.Post,
 ) (field-at t) field.Post
 unfolding read field′
-field-returns-2 t c = moved ((c .before .before .before .before .before .before .before .before .before .before .before .before .before .before .args) .stream .now) ((c .before .before .before .before .before .before .before .before .before .before .before .before .before .before .args) .used) 0 ((c .before .before .before .before .before .before .before .before .before .before .before .before .before .before .args) .nodes .now) ((c .before .before .named) .last .1 .0) ((c .before .before .named) .result) (by-kind ((c .before .before .before .before .before .before .before .before .before .before .before .before .before .before .args) .stream .now) (ranks ((c .before .before .before .before .before .before .before .before .before .before .before .before .before .before .args) .ranking)) 0 (readers ((c .before .before .before .before .before .before .before .before .before .before .before .before .before .before .args) .stream .now) (ranks ((c .before .before .before .before .before .before .before .before .before .before .before .before .before .before .args) .ranking)) ((c .before .before .before .before .before .before .before .before .before .before .before .before .before .before .args) .g)) (hold 0 0 none) again ((c .before .before .before .before .before .before .before .before .before .before .before .before .before .before .args) .c) (58, (on second (37 ∷ []) P.fielded P.item)) ((51, P.keyed) ∷ []) P.item (sym ((c .before .before .before .before .before .before .before .before .before .before .before .get-next) .ensures) ∙ (c .before .before .before .before .before .before .before .before .before .t) .given .1) ((c .before .before .before .before .before .before .before .match2) .keys1) ∙ second-in ((c .before .before .before .before .before .before .before .before .before .before .before .before .before .before .args) .stream .now) (ranks ((c .before .before .before .before .before .before .before .before .before .before .before .before .before .before .args) .ranking)) 0 (readers ((c .before .before .before .before .before .before .before .before .before .before .before .before .before .before .args) .stream .now) (ranks ((c .before .before .before .before .before .before .before .before .before .before .before .before .before .before .args) .ranking)) ((c .before .before .before .before .before .before .before .before .before .before .before .before .before .before .args) .g)) (hold 0 0 none) again ((c .before .before .before .before .before .before .before .before .before .t) .given .0 .1 .0) 37 P.fielded P.item (λ z. omega arith) ((c .before .before .before .before .before .before .check-ahead) .ensures) ((c .before .before .before .before .if1) .taken)) (omega (arith, (check-place ((c .before .before .before .before .before .before .before .before .before .before .before .before .before .before .args) .stream .now) ((c .before .before .before .before .before .before .before .before .before .t) .given .0 .1 .0) 1 37 ((c .before .before .before .before .before .before .check-ahead) .ensures) ∙ (get-place ((c .before .before .before .before .before .before .before .before .before .before .before .before .before .before .args) .stream .now) ((c .before .before .before .before .before .before .before .before .before .before .before .before .before .before .args) .c) (sym ((c .before .before .before .before .before .before .before .before .before .before .before .get-next) .ensures) ∙ (c .before .before .before .before .before .before .before .before .before .t) .given .1))))) ((c .before .before .named) .ensures)
+field-returns-2 t c = moved ((c .before .before .before .before .before .before .before .before .before .before .before .before .before .before .args) .stream .now) (check-note ((c .before .before .before .before .before .before .before .before .before .before .before .before .before .before .args) .stream .now) ((c .before .before .before .before .before .before .before .before .before .t) .given .0 .1 .0) 1 37 ((c .before .before .before .before .before .before .check-ahead) .ensures) ∙ (get-note ((c .before .before .before .before .before .before .before .before .before .before .before .before .before .before .args) .stream .now) ((c .before .before .before .before .before .before .before .before .before .before .before .before .before .before .args) .c) (sym ((c .before .before .before .before .before .before .before .before .before .before .before .get-next) .ensures) ∙ (c .before .before .before .before .before .before .before .before .before .t) .given .1))) ((c .before .before .before .before .before .before .before .before .before .before .before .before .before .before .args) .used) 0 ((c .before .before .before .before .before .before .before .before .before .before .before .before .before .before .args) .nodes .now) ((c .before .before .named) .last .1 .0) ((c .before .before .named) .result) (by-kind ((c .before .before .before .before .before .before .before .before .before .before .before .before .before .before .args) .stream .now) (ranks ((c .before .before .before .before .before .before .before .before .before .before .before .before .before .before .args) .ranking)) 0 (readers ((c .before .before .before .before .before .before .before .before .before .before .before .before .before .before .args) .stream .now) (ranks ((c .before .before .before .before .before .before .before .before .before .before .before .before .before .before .args) .ranking)) ((c .before .before .before .before .before .before .before .before .before .before .before .before .before .before .args) .g)) (hold 0 0 none) again ((c .before .before .before .before .before .before .before .before .before .before .before .before .before .before .args) .c) (58, (on second (37 ∷ []) P.fielded P.item)) ((51, P.keyed) ∷ []) P.item (sym ((c .before .before .before .before .before .before .before .before .before .before .before .get-next) .ensures) ∙ (c .before .before .before .before .before .before .before .before .before .t) .given .1) ((c .before .before .before .before .before .before .before .match2) .keys1) ∙ second-in ((c .before .before .before .before .before .before .before .before .before .before .before .before .before .before .args) .stream .now) (ranks ((c .before .before .before .before .before .before .before .before .before .before .before .before .before .before .args) .ranking)) 0 (readers ((c .before .before .before .before .before .before .before .before .before .before .before .before .before .before .args) .stream .now) (ranks ((c .before .before .before .before .before .before .before .before .before .before .before .before .before .before .args) .ranking)) ((c .before .before .before .before .before .before .before .before .before .before .before .before .before .before .args) .g)) (hold 0 0 none) again ((c .before .before .before .before .before .before .before .before .before .t) .given .0 .1 .0) 37 P.fielded P.item (λ z. omega arith) ((c .before .before .before .before .before .before .check-ahead) .ensures) ((c .before .before .before .before .if1) .taken)) (omega (arith, (check-place ((c .before .before .before .before .before .before .before .before .before .before .before .before .before .before .args) .stream .now) ((c .before .before .before .before .before .before .before .before .before .t) .given .0 .1 .0) 1 37 ((c .before .before .before .before .before .before .check-ahead) .ensures) ∙ (get-place ((c .before .before .before .before .before .before .before .before .before .before .before .before .before .before .args) .stream .now) ((c .before .before .before .before .before .before .before .before .before .before .before .before .before .before .args) .c) (sym ((c .before .before .before .before .before .before .before .before .before .before .before .get-next) .ensures) ∙ (c .before .before .before .before .before .before .before .before .before .t) .given .1))))) ((c .before .before .named) .ensures)
 
 pub field-same-length-2 : (t : ℕ) → field-lts.Need-same-length-2 (
   get-next-reads.Asked,
@@ -211,7 +211,7 @@ pub field-returns-3 : (t : ℕ) → field-lts.Need-returns-3 (
   keyed.Post,
 ) (field-at t) field.Post
 unfolding read field′
-field-returns-3 t c = moved ((c .before .before .before .before .before .before .before .before .before .before .before .before .before .before .args) .stream .now) ((c .before .before .before .before .before .before .before .before .before .before .before .before .before .before .args) .used) 0 ((c .before .before .before .before .before .before .before .before .before .before .before .before .before .before .args) .nodes .now) ((c .before .before .item) .last .1 .0) ((c .before .before .item) .result) (by-kind ((c .before .before .before .before .before .before .before .before .before .before .before .before .before .before .args) .stream .now) (ranks ((c .before .before .before .before .before .before .before .before .before .before .before .before .before .before .args) .ranking)) 0 (readers ((c .before .before .before .before .before .before .before .before .before .before .before .before .before .before .args) .stream .now) (ranks ((c .before .before .before .before .before .before .before .before .before .before .before .before .before .before .args) .ranking)) ((c .before .before .before .before .before .before .before .before .before .before .before .before .before .before .args) .g)) (hold 0 0 none) again ((c .before .before .before .before .before .before .before .before .before .before .before .before .before .before .args) .c) (58, (on second (37 ∷ []) P.fielded P.item)) ((51, P.keyed) ∷ []) P.item (sym ((c .before .before .before .before .before .before .before .before .before .before .before .get-next) .ensures) ∙ (c .before .before .before .before .before .before .before .before .before .t) .given .1) ((c .before .before .before .before .before .before .before .match2) .keys1) ∙ second-out ((c .before .before .before .before .before .before .before .before .before .before .before .before .before .before .args) .stream .now) (ranks ((c .before .before .before .before .before .before .before .before .before .before .before .before .before .before .args) .ranking)) 0 (readers ((c .before .before .before .before .before .before .before .before .before .before .before .before .before .before .args) .stream .now) (ranks ((c .before .before .before .before .before .before .before .before .before .before .before .before .before .before .args) .ranking)) ((c .before .before .before .before .before .before .before .before .before .before .before .before .before .before .args) .g)) (hold 0 0 none) again ((c .before .before .before .before .before .before .before .before .before .t) .given .0 .1 .0) 37 P.fielded P.item (λ z. omega arith) ((c .before .before .before .before .before .before .check-ahead) .ensures) ((c .before .before .before .before .if1) .left)) (omega (arith, (check-place ((c .before .before .before .before .before .before .before .before .before .before .before .before .before .before .args) .stream .now) ((c .before .before .before .before .before .before .before .before .before .t) .given .0 .1 .0) 1 37 ((c .before .before .before .before .before .before .check-ahead) .ensures) ∙ (get-place ((c .before .before .before .before .before .before .before .before .before .before .before .before .before .before .args) .stream .now) ((c .before .before .before .before .before .before .before .before .before .before .before .before .before .before .args) .c) (sym ((c .before .before .before .before .before .before .before .before .before .before .before .get-next) .ensures) ∙ (c .before .before .before .before .before .before .before .before .before .t) .given .1))))) ((c .before .before .item) .ensures)
+field-returns-3 t c = moved ((c .before .before .before .before .before .before .before .before .before .before .before .before .before .before .args) .stream .now) (check-note ((c .before .before .before .before .before .before .before .before .before .before .before .before .before .before .args) .stream .now) ((c .before .before .before .before .before .before .before .before .before .t) .given .0 .1 .0) 1 37 ((c .before .before .before .before .before .before .check-ahead) .ensures) ∙ (get-note ((c .before .before .before .before .before .before .before .before .before .before .before .before .before .before .args) .stream .now) ((c .before .before .before .before .before .before .before .before .before .before .before .before .before .before .args) .c) (sym ((c .before .before .before .before .before .before .before .before .before .before .before .get-next) .ensures) ∙ (c .before .before .before .before .before .before .before .before .before .t) .given .1))) ((c .before .before .before .before .before .before .before .before .before .before .before .before .before .before .args) .used) 0 ((c .before .before .before .before .before .before .before .before .before .before .before .before .before .before .args) .nodes .now) ((c .before .before .item) .last .1 .0) ((c .before .before .item) .result) (by-kind ((c .before .before .before .before .before .before .before .before .before .before .before .before .before .before .args) .stream .now) (ranks ((c .before .before .before .before .before .before .before .before .before .before .before .before .before .before .args) .ranking)) 0 (readers ((c .before .before .before .before .before .before .before .before .before .before .before .before .before .before .args) .stream .now) (ranks ((c .before .before .before .before .before .before .before .before .before .before .before .before .before .before .args) .ranking)) ((c .before .before .before .before .before .before .before .before .before .before .before .before .before .before .args) .g)) (hold 0 0 none) again ((c .before .before .before .before .before .before .before .before .before .before .before .before .before .before .args) .c) (58, (on second (37 ∷ []) P.fielded P.item)) ((51, P.keyed) ∷ []) P.item (sym ((c .before .before .before .before .before .before .before .before .before .before .before .get-next) .ensures) ∙ (c .before .before .before .before .before .before .before .before .before .t) .given .1) ((c .before .before .before .before .before .before .before .match2) .keys1) ∙ second-out ((c .before .before .before .before .before .before .before .before .before .before .before .before .before .before .args) .stream .now) (ranks ((c .before .before .before .before .before .before .before .before .before .before .before .before .before .before .args) .ranking)) 0 (readers ((c .before .before .before .before .before .before .before .before .before .before .before .before .before .before .args) .stream .now) (ranks ((c .before .before .before .before .before .before .before .before .before .before .before .before .before .before .args) .ranking)) ((c .before .before .before .before .before .before .before .before .before .before .before .before .before .before .args) .g)) (hold 0 0 none) again ((c .before .before .before .before .before .before .before .before .before .t) .given .0 .1 .0) 37 P.fielded P.item (λ z. omega arith) ((c .before .before .before .before .before .before .check-ahead) .ensures) ((c .before .before .before .before .if1) .left)) (omega (arith, (check-place ((c .before .before .before .before .before .before .before .before .before .before .before .before .before .before .args) .stream .now) ((c .before .before .before .before .before .before .before .before .before .t) .given .0 .1 .0) 1 37 ((c .before .before .before .before .before .before .check-ahead) .ensures) ∙ (get-place ((c .before .before .before .before .before .before .before .before .before .before .before .before .before .before .args) .stream .now) ((c .before .before .before .before .before .before .before .before .before .before .before .before .before .before .args) .c) (sym ((c .before .before .before .before .before .before .before .before .before .before .before .get-next) .ensures) ∙ (c .before .before .before .before .before .before .before .before .before .t) .given .1))))) ((c .before .before .item) .ensures)
 
 pub field-same-length-3 : (t : ℕ) → field-lts.Need-same-length-3 (
   get-next-reads.Asked,
@@ -240,7 +240,7 @@ pub field-returns-4 : (t : ℕ) → field-lts.Need-returns-4 (
   keyed.Post,
 ) (field-at t) field.Post
 unfolding read field′
-field-returns-4 t c = moved ((c .before .before .before .before .before .before .before .before .before .before .before .args) .stream .now) ((c .before .before .before .before .before .before .before .before .before .before .before .args) .used) 0 ((c .before .before .before .before .before .before .before .before .before .before .before .args) .nodes .now) ((c .before .before .keyed) .last .1 .0) ((c .before .before .keyed) .result) (by-kind ((c .before .before .before .before .before .before .before .before .before .before .before .args) .stream .now) (ranks ((c .before .before .before .before .before .before .before .before .before .before .before .args) .ranking)) 0 (readers ((c .before .before .before .before .before .before .before .before .before .before .before .args) .stream .now) (ranks ((c .before .before .before .before .before .before .before .before .before .before .before .args) .ranking)) ((c .before .before .before .before .before .before .before .before .before .before .before .args) .g)) (hold 0 0 none) again ((c .before .before .before .before .before .before .before .before .before .before .before .args) .c) (58, (on second (37 ∷ []) P.fielded P.item)) ((51, P.keyed) ∷ []) P.item (sym ((c .before .before .before .before .before .before .before .before .get-next) .ensures) ∙ (c .before .before .before .before .before .before .t) .given .1) ((c .before .before .before .before .match2) .keys2)) (omega (arith, (get-place ((c .before .before .before .before .before .before .before .before .before .before .before .args) .stream .now) ((c .before .before .before .before .before .before .before .before .before .before .before .args) .c) (sym ((c .before .before .before .before .before .before .before .before .get-next) .ensures) ∙ (c .before .before .before .before .before .before .t) .given .1)))) ((c .before .before .keyed) .ensures)
+field-returns-4 t c = moved ((c .before .before .before .before .before .before .before .before .before .before .before .args) .stream .now) (get-note ((c .before .before .before .before .before .before .before .before .before .before .before .args) .stream .now) ((c .before .before .before .before .before .before .before .before .before .before .before .args) .c) (sym ((c .before .before .before .before .before .before .before .before .get-next) .ensures) ∙ (c .before .before .before .before .before .before .t) .given .1)) ((c .before .before .before .before .before .before .before .before .before .before .before .args) .used) 0 ((c .before .before .before .before .before .before .before .before .before .before .before .args) .nodes .now) ((c .before .before .keyed) .last .1 .0) ((c .before .before .keyed) .result) (by-kind ((c .before .before .before .before .before .before .before .before .before .before .before .args) .stream .now) (ranks ((c .before .before .before .before .before .before .before .before .before .before .before .args) .ranking)) 0 (readers ((c .before .before .before .before .before .before .before .before .before .before .before .args) .stream .now) (ranks ((c .before .before .before .before .before .before .before .before .before .before .before .args) .ranking)) ((c .before .before .before .before .before .before .before .before .before .before .before .args) .g)) (hold 0 0 none) again ((c .before .before .before .before .before .before .before .before .before .before .before .args) .c) (58, (on second (37 ∷ []) P.fielded P.item)) ((51, P.keyed) ∷ []) P.item (sym ((c .before .before .before .before .before .before .before .before .get-next) .ensures) ∙ (c .before .before .before .before .before .before .t) .given .1) ((c .before .before .before .before .match2) .keys2)) (omega (arith, (get-place ((c .before .before .before .before .before .before .before .before .before .before .before .args) .stream .now) ((c .before .before .before .before .before .before .before .before .before .before .before .args) .c) (sym ((c .before .before .before .before .before .before .before .before .get-next) .ensures) ∙ (c .before .before .before .before .before .before .t) .given .1)))) ((c .before .before .keyed) .ensures)
 
 pub field-same-length-4 : (t : ℕ) → field-lts.Need-same-length-4 (
   get-next-reads.Asked,
@@ -269,4 +269,4 @@ pub field-returns-5 : (t : ℕ) → field-lts.Need-returns-5 (
   keyed.Post,
 ) (field-at t) field.Post
 unfolding read field′
-field-returns-5 t c = moved ((c .before .before .before .before .before .before .before .before .before .before .before .args) .stream .now) ((c .before .before .before .before .before .before .before .before .before .before .before .args) .used) 0 ((c .before .before .before .before .before .before .before .before .before .before .before .args) .nodes .now) ((c .before .before .item2) .last .1 .0) ((c .before .before .item2) .result) (by-others ((c .before .before .before .before .before .before .before .before .before .before .before .args) .stream .now) (ranks ((c .before .before .before .before .before .before .before .before .before .before .before .args) .ranking)) 0 (readers ((c .before .before .before .before .before .before .before .before .before .before .before .args) .stream .now) (ranks ((c .before .before .before .before .before .before .before .before .before .before .before .args) .ranking)) ((c .before .before .before .before .before .before .before .before .before .before .before .args) .g)) (hold 0 0 none) again ((c .before .before .before .before .before .before .before .before .before .before .before .args) .c) (58, (on second (37 ∷ []) P.fielded P.item)) ((51, P.keyed) ∷ []) P.item (sym ((c .before .before .before .before .before .before .before .before .get-next) .ensures) ∙ (c .before .before .before .before .before .before .t) .given .1) ((c .before .before .before .before .match2) .rest .0 .1) ((c .before .before .before .before .match2) .rest .1)) (omega (arith, (get-place ((c .before .before .before .before .before .before .before .before .before .before .before .args) .stream .now) ((c .before .before .before .before .before .before .before .before .before .before .before .args) .c) (sym ((c .before .before .before .before .before .before .before .before .get-next) .ensures) ∙ (c .before .before .before .before .before .before .t) .given .1)))) ((c .before .before .item2) .ensures)
+field-returns-5 t c = moved ((c .before .before .before .before .before .before .before .before .before .before .before .args) .stream .now) (get-note ((c .before .before .before .before .before .before .before .before .before .before .before .args) .stream .now) ((c .before .before .before .before .before .before .before .before .before .before .before .args) .c) (sym ((c .before .before .before .before .before .before .before .before .get-next) .ensures) ∙ (c .before .before .before .before .before .before .t) .given .1)) ((c .before .before .before .before .before .before .before .before .before .before .before .args) .used) 0 ((c .before .before .before .before .before .before .before .before .before .before .before .args) .nodes .now) ((c .before .before .item2) .last .1 .0) ((c .before .before .item2) .result) (by-others ((c .before .before .before .before .before .before .before .before .before .before .before .args) .stream .now) (ranks ((c .before .before .before .before .before .before .before .before .before .before .before .args) .ranking)) 0 (readers ((c .before .before .before .before .before .before .before .before .before .before .before .args) .stream .now) (ranks ((c .before .before .before .before .before .before .before .before .before .before .before .args) .ranking)) ((c .before .before .before .before .before .before .before .before .before .before .before .args) .g)) (hold 0 0 none) again ((c .before .before .before .before .before .before .before .before .before .before .before .args) .c) (58, (on second (37 ∷ []) P.fielded P.item)) ((51, P.keyed) ∷ []) P.item (sym ((c .before .before .before .before .before .before .before .before .get-next) .ensures) ∙ (c .before .before .before .before .before .before .t) .given .1) ((c .before .before .before .before .match2) .rest .0 .1) ((c .before .before .before .before .match2) .rest .1)) (omega (arith, (get-place ((c .before .before .before .before .before .before .before .before .before .before .before .args) .stream .now) ((c .before .before .before .before .before .before .before .before .before .before .before .args) .c) (sym ((c .before .before .before .before .before .before .before .before .get-next) .ensures) ∙ (c .before .before .before .before .before .before .t) .given .1)))) ((c .before .before .item2) .ensures)

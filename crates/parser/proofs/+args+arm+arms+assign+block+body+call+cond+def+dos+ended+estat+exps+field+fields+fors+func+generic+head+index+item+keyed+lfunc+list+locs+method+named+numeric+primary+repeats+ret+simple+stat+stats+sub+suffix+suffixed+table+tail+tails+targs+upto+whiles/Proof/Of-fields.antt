@@ -27,7 +27,7 @@ use Rattle.grammar.specs.Productions.{word}
 use Rattle.parser.specs.Contract.{says, under}
 use Rattle.parser.specs.Parts as P
 use Rattle.stream.proofs.Words.{few}
-use Rattle.parser.proofs.Steps.{took-next, next-fail, next-in, next-out, check-in, check-out, check-place, get-place}
+use Rattle.parser.proofs.Steps.{took-next, next-fail, next-in, next-out, check-in, check-out, check-place, get-place, check-note, get-note}
 use Rattle.parser.proofs.Among.{among, nor}
 use Rattle.parser.proofs.Kit.{kept, alter, weighs, Going, begin, revalue-going, going-length, looks, fails, goes, stop}
 use Rattle.parser.proofs.Tokens.{any-fail, any-fine}
@@ -37,7 +37,7 @@ use Rattle.grammar.specs.Productions.{field as field′}
 use mathlib.Core.Logic.{⊎-elim}
 
 abbrev pub fields-Inv-loop : fields-lts.InvT-loop
-fields-Inv-loop stream nodes₀ ranking used g at₀ u₀ n₀ nodes at u n = Formed stream × (at .place < records stream) × (u ≤ 4 * at .place + 0) × (n + 2 * at₀ .place ≤ 2 * at .place) × Going stream (at₀ .place) used 0 nodes₀ nodes (says stream ranking g P.fields at₀) (under stream ranking 0 g 0 P.fields) at u n
+fields-Inv-loop stream nodes₀ ranking used g at₀ u₀ n₀ nodes at u n = Formed stream × (at .place < records stream) × (u ≤ 4 * at .place + 0) × (n + 2 * at₀ .place ≤ 2 * at .place) × Going stream (at₀ .note) (at₀ .place) used 0 nodes₀ nodes (says stream ranking g P.fields at₀) (under stream ranking 0 g 0 P.fields) at u n
 
 abbrev pub fields-μ-loop : fields-lts.MeasureT-loop
 fields-μ-loop stream nodes₀ ranking used g at₀ u₀ n₀ nodes at u n = records stream - at .place
@@ -112,7 +112,7 @@ pub fields-returns : (t : ℕ) → fields-lts.Need-returns (
 ) (fields-at t) fields.Post fields-Inv-loop fields-μ-loop
 unfolding read field′
 fields-returns t c =
-    let g1 = looks (((c .before .before .before .before .loop) .inv) .4) (read ((c .before .before .before .before .before .before .before .args) .stream .now) (ranks ((c .before .before .before .before .before .before .before .args) .ranking)) 0 (readers ((c .before .before .before .before .before .before .before .args) .stream .now) (ranks ((c .before .before .before .before .before .before .before .args) .ranking)) ((c .before .before .before .before .before .before .before .args) .g)) (hold 0 0 none) (word 54) (under ((c .before .before .before .before .before .before .before .args) .stream .now) ((c .before .before .before .before .before .before .before .args) .ranking) 0 ((c .before .before .before .before .before .before .before .args) .g) 0 (iter (on check (54 ∷ []) (word 54) (plus 1 ⨾ field′ ⨾ (on next (48 ∷ 45 ∷ []) (any ⨾ again′) (word 54))))))) (((c .before .before .before .check-ahead) .result) .cursor) (looping ((c .before .before .before .before .before .before .before .args) .stream .now) ((c .before .before .before .before .before .before .before .args) .ranking) 0 ((c .before .before .before .before .before .before .before .args) .g) 0 (on check (54 ∷ []) (word 54) (plus 1 ⨾ field′ ⨾ (on next (48 ∷ 45 ∷ []) (any ⨾ again′) (word 54)))) refl ((c .before .before .before .before .loop) .at) (((c .before .before .before .before .loop) .inv) .1) ∙ check-in ((c .before .before .before .before .before .before .before .args) .stream .now) (ranks ((c .before .before .before .before .before .before .before .args) .ranking)) 0 (readers ((c .before .before .before .before .before .before .before .args) .stream .now) (ranks ((c .before .before .before .before .before .before .before .args) .ranking)) ((c .before .before .before .before .before .before .before .args) .g)) (hold 0 0 none) (under ((c .before .before .before .before .before .before .before .args) .stream .now) ((c .before .before .before .before .before .before .before .args) .ranking) 0 ((c .before .before .before .before .before .before .before .args) .g) 0 (iter (on check (54 ∷ []) (word 54) (plus 1 ⨾ field′ ⨾ (on next (48 ∷ 45 ∷ []) (any ⨾ again′) (word 54)))))) ((c .before .before .before .before .loop) .at) 54 (word 54) (plus 1 ⨾ field′ ⨾ (on next (48 ∷ 45 ∷ []) (any ⨾ again′) (word 54))) (λ z. omega arith) ((c .before .before .before .check-ahead) .ensures) ((c .before .if1) .taken)) (check-place ((c .before .before .before .before .before .before .before .args) .stream .now) ((c .before .before .before .before .loop) .at) 0 54 ((c .before .before .before .check-ahead) .ensures)) in
+    let g1 = looks (((c .before .before .before .before .loop) .inv) .4) (read ((c .before .before .before .before .before .before .before .args) .stream .now) (ranks ((c .before .before .before .before .before .before .before .args) .ranking)) 0 (readers ((c .before .before .before .before .before .before .before .args) .stream .now) (ranks ((c .before .before .before .before .before .before .before .args) .ranking)) ((c .before .before .before .before .before .before .before .args) .g)) (hold 0 0 none) (word 54) (under ((c .before .before .before .before .before .before .before .args) .stream .now) ((c .before .before .before .before .before .before .before .args) .ranking) 0 ((c .before .before .before .before .before .before .before .args) .g) 0 (iter (on check (54 ∷ []) (word 54) (plus 1 ⨾ field′ ⨾ (on next (48 ∷ 45 ∷ []) (any ⨾ again′) (word 54))))))) (((c .before .before .before .check-ahead) .result) .cursor) (looping ((c .before .before .before .before .before .before .before .args) .stream .now) ((c .before .before .before .before .before .before .before .args) .ranking) 0 ((c .before .before .before .before .before .before .before .args) .g) 0 (on check (54 ∷ []) (word 54) (plus 1 ⨾ field′ ⨾ (on next (48 ∷ 45 ∷ []) (any ⨾ again′) (word 54)))) refl ((c .before .before .before .before .loop) .at) (((c .before .before .before .before .loop) .inv) .1) ∙ check-in ((c .before .before .before .before .before .before .before .args) .stream .now) (ranks ((c .before .before .before .before .before .before .before .args) .ranking)) 0 (readers ((c .before .before .before .before .before .before .before .args) .stream .now) (ranks ((c .before .before .before .before .before .before .before .args) .ranking)) ((c .before .before .before .before .before .before .before .args) .g)) (hold 0 0 none) (under ((c .before .before .before .before .before .before .before .args) .stream .now) ((c .before .before .before .before .before .before .before .args) .ranking) 0 ((c .before .before .before .before .before .before .before .args) .g) 0 (iter (on check (54 ∷ []) (word 54) (plus 1 ⨾ field′ ⨾ (on next (48 ∷ 45 ∷ []) (any ⨾ again′) (word 54)))))) ((c .before .before .before .before .loop) .at) 54 (word 54) (plus 1 ⨾ field′ ⨾ (on next (48 ∷ 45 ∷ []) (any ⨾ again′) (word 54))) (λ z. omega arith) ((c .before .before .before .check-ahead) .ensures) ((c .before .if1) .taken)) (check-place ((c .before .before .before .before .before .before .before .args) .stream .now) ((c .before .before .before .before .loop) .at) 0 54 ((c .before .before .before .check-ahead) .ensures)) (check-note ((c .before .before .before .before .before .before .before .args) .stream .now) ((c .before .before .before .before .loop) .at) 0 54 ((c .before .before .before .check-ahead) .ensures)) in
     counted-sums ((c .before .before .before .before .before .before .before .args) .stream .now) (ranks ((c .before .before .before .before .before .before .before .args) .ranking)) 0 (readers ((c .before .before .before .before .before .before .before .args) .stream .now) (ranks ((c .before .before .before .before .before .before .before .args) .ranking)) ((c .before .before .before .before .before .before .before .args) .g)) (hold 0 0 none) (under ((c .before .before .before .before .before .before .before .args) .stream .now) ((c .before .before .before .before .before .before .before .args) .ranking) 0 ((c .before .before .before .before .before .before .before .args) .g) 0 (iter (on check (54 ∷ []) (word 54) (plus 1 ⨾ field′ ⨾ (on next (48 ∷ 45 ∷ []) (any ⨾ again′) (word 54)))))) (((c .before .before .before .check-ahead) .result) .cursor) 54 refl refl (((c .before .before .before .before .loop) .inv) .0) (((c .before .before .before .before .before .before .before .args) .c) .place) (((c .before .before .before .before .before .before .before .args) .c) .place + 1) 0 g1 refl (omega (arith, g1 .later)) (omega (arith, g1 .room)) (omega (arith, ((c .before .before .before .before .loop) .inv) .3, (check-place ((c .before .before .before .before .before .before .before .args) .stream .now) ((c .before .before .before .before .loop) .at) 0 54 ((c .before .before .before .check-ahead) .ensures)))) ((c .counted) .result) ((c .counted) .ensures)
 
 pub fields-field-requires : (t : ℕ) → fields-lts.Need-field-requires (
@@ -172,7 +172,8 @@ pub fields-returns-2 : (t : ℕ) → fields-lts.Need-returns-2 (
 unfolding read field′
 fields-returns-2 t c =
     let pl = (check-place ((c .before .before .before .before .before .before .before .before .before .before .before .before .before .args) .stream .now) ((c .before .before .before .before .before .before .before .before .before .before .loop) .at) 0 54 ((c .before .before .before .before .before .before .before .before .before .check-ahead) .ensures)) in
-    let g1 = looks (((c .before .before .before .before .before .before .before .before .before .before .loop) .inv) .4) (read ((c .before .before .before .before .before .before .before .before .before .before .before .before .before .args) .stream .now) (ranks ((c .before .before .before .before .before .before .before .before .before .before .before .before .before .args) .ranking)) 0 (readers ((c .before .before .before .before .before .before .before .before .before .before .before .before .before .args) .stream .now) (ranks ((c .before .before .before .before .before .before .before .before .before .before .before .before .before .args) .ranking)) ((c .before .before .before .before .before .before .before .before .before .before .before .before .before .args) .g)) (hold 0 0 none) (plus 1 ⨾ field′ ⨾ (on next (48 ∷ 45 ∷ []) (any ⨾ again′) (word 54))) (under ((c .before .before .before .before .before .before .before .before .before .before .before .before .before .args) .stream .now) ((c .before .before .before .before .before .before .before .before .before .before .before .before .before .args) .ranking) 0 ((c .before .before .before .before .before .before .before .before .before .before .before .before .before .args) .g) 0 (iter (on check (54 ∷ []) (word 54) (plus 1 ⨾ field′ ⨾ (on next (48 ∷ 45 ∷ []) (any ⨾ again′) (word 54))))))) (((c .before .before .before .before .before .before .before .before .before .check-ahead) .result) .cursor) (looping ((c .before .before .before .before .before .before .before .before .before .before .before .before .before .args) .stream .now) ((c .before .before .before .before .before .before .before .before .before .before .before .before .before .args) .ranking) 0 ((c .before .before .before .before .before .before .before .before .before .before .before .before .before .args) .g) 0 (on check (54 ∷ []) (word 54) (plus 1 ⨾ field′ ⨾ (on next (48 ∷ 45 ∷ []) (any ⨾ again′) (word 54)))) refl ((c .before .before .before .before .before .before .before .before .before .before .loop) .at) (((c .before .before .before .before .before .before .before .before .before .before .loop) .inv) .1) ∙ check-out ((c .before .before .before .before .before .before .before .before .before .before .before .before .before .args) .stream .now) (ranks ((c .before .before .before .before .before .before .before .before .before .before .before .before .before .args) .ranking)) 0 (readers ((c .before .before .before .before .before .before .before .before .before .before .before .before .before .args) .stream .now) (ranks ((c .before .before .before .before .before .before .before .before .before .before .before .before .before .args) .ranking)) ((c .before .before .before .before .before .before .before .before .before .before .before .before .before .args) .g)) (hold 0 0 none) (under ((c .before .before .before .before .before .before .before .before .before .before .before .before .before .args) .stream .now) ((c .before .before .before .before .before .before .before .before .before .before .before .before .before .args) .ranking) 0 ((c .before .before .before .before .before .before .before .before .before .before .before .before .before .args) .g) 0 (iter (on check (54 ∷ []) (word 54) (plus 1 ⨾ field′ ⨾ (on next (48 ∷ 45 ∷ []) (any ⨾ again′) (word 54)))))) ((c .before .before .before .before .before .before .before .before .before .before .loop) .at) 54 (word 54) (plus 1 ⨾ field′ ⨾ (on next (48 ∷ 45 ∷ []) (any ⨾ again′) (word 54))) (λ z. omega arith) ((c .before .before .before .before .before .before .before .before .before .check-ahead) .ensures) ((c .before .before .before .before .before .before .before .if1) .left)) pl in
+    let pl′ = (check-note ((c .before .before .before .before .before .before .before .before .before .before .before .before .before .args) .stream .now) ((c .before .before .before .before .before .before .before .before .before .before .loop) .at) 0 54 ((c .before .before .before .before .before .before .before .before .before .check-ahead) .ensures)) in
+    let g1 = looks (((c .before .before .before .before .before .before .before .before .before .before .loop) .inv) .4) (read ((c .before .before .before .before .before .before .before .before .before .before .before .before .before .args) .stream .now) (ranks ((c .before .before .before .before .before .before .before .before .before .before .before .before .before .args) .ranking)) 0 (readers ((c .before .before .before .before .before .before .before .before .before .before .before .before .before .args) .stream .now) (ranks ((c .before .before .before .before .before .before .before .before .before .before .before .before .before .args) .ranking)) ((c .before .before .before .before .before .before .before .before .before .before .before .before .before .args) .g)) (hold 0 0 none) (plus 1 ⨾ field′ ⨾ (on next (48 ∷ 45 ∷ []) (any ⨾ again′) (word 54))) (under ((c .before .before .before .before .before .before .before .before .before .before .before .before .before .args) .stream .now) ((c .before .before .before .before .before .before .before .before .before .before .before .before .before .args) .ranking) 0 ((c .before .before .before .before .before .before .before .before .before .before .before .before .before .args) .g) 0 (iter (on check (54 ∷ []) (word 54) (plus 1 ⨾ field′ ⨾ (on next (48 ∷ 45 ∷ []) (any ⨾ again′) (word 54))))))) (((c .before .before .before .before .before .before .before .before .before .check-ahead) .result) .cursor) (looping ((c .before .before .before .before .before .before .before .before .before .before .before .before .before .args) .stream .now) ((c .before .before .before .before .before .before .before .before .before .before .before .before .before .args) .ranking) 0 ((c .before .before .before .before .before .before .before .before .before .before .before .before .before .args) .g) 0 (on check (54 ∷ []) (word 54) (plus 1 ⨾ field′ ⨾ (on next (48 ∷ 45 ∷ []) (any ⨾ again′) (word 54)))) refl ((c .before .before .before .before .before .before .before .before .before .before .loop) .at) (((c .before .before .before .before .before .before .before .before .before .before .loop) .inv) .1) ∙ check-out ((c .before .before .before .before .before .before .before .before .before .before .before .before .before .args) .stream .now) (ranks ((c .before .before .before .before .before .before .before .before .before .before .before .before .before .args) .ranking)) 0 (readers ((c .before .before .before .before .before .before .before .before .before .before .before .before .before .args) .stream .now) (ranks ((c .before .before .before .before .before .before .before .before .before .before .before .before .before .args) .ranking)) ((c .before .before .before .before .before .before .before .before .before .before .before .before .before .args) .g)) (hold 0 0 none) (under ((c .before .before .before .before .before .before .before .before .before .before .before .before .before .args) .stream .now) ((c .before .before .before .before .before .before .before .before .before .before .before .before .before .args) .ranking) 0 ((c .before .before .before .before .before .before .before .before .before .before .before .before .before .args) .g) 0 (iter (on check (54 ∷ []) (word 54) (plus 1 ⨾ field′ ⨾ (on next (48 ∷ 45 ∷ []) (any ⨾ again′) (word 54)))))) ((c .before .before .before .before .before .before .before .before .before .before .loop) .at) 54 (word 54) (plus 1 ⨾ field′ ⨾ (on next (48 ∷ 45 ∷ []) (any ⨾ again′) (word 54))) (λ z. omega arith) ((c .before .before .before .before .before .before .before .before .before .check-ahead) .ensures) ((c .before .before .before .before .before .before .before .if1) .left)) pl pl′ in
     let w1 = weighs {s = ((c .before .before .before .before .before .before .before .before .before .before .before .before .before .args) .stream .now)} ((c .before .before .before .before .before .before .before .before .before .before .loop) .nodes) ((c .before .before .before .before .before .before .before .before .before .before .loop) .u) 0 1 (((c .before .before .before .before .before .before .before .before .before .check-ahead) .result) .cursor) (g1 .at) (g1 .room) in
     let g2 = goes g1 (read ((c .before .before .before .before .before .before .before .before .before .before .before .before .before .args) .stream .now) (ranks ((c .before .before .before .before .before .before .before .before .before .before .before .before .before .args) .ranking)) 0 (readers ((c .before .before .before .before .before .before .before .before .before .before .before .before .before .args) .stream .now) (ranks ((c .before .before .before .before .before .before .before .before .before .before .before .before .before .args) .ranking)) ((c .before .before .before .before .before .before .before .before .before .before .before .before .before .args) .g)) (hold 0 0 none) (field′ ⨾ (on next (48 ∷ 45 ∷ []) (any ⨾ again′) (word 54))) (under ((c .before .before .before .before .before .before .before .before .before .before .before .before .before .args) .stream .now) ((c .before .before .before .before .before .before .before .before .before .before .before .before .before .args) .ranking) 0 ((c .before .before .before .before .before .before .before .before .before .before .before .before .before .args) .g) 0 (iter (on check (54 ∷ []) (word 54) (plus 1 ⨾ field′ ⨾ (on next (48 ∷ 45 ∷ []) (any ⨾ again′) (word 54))))))) refl w1 (omega arith) in
     let q = settled ((c .before .before .before .before .before .before .before .before .before .before .before .before .before .args) .stream .now) ((c .before .before .before .before .before .before .before .before .before .before .before .before .before .args) .ranking) 0 ((c .before .before .before .before .before .before .before .before .before .before .before .before .before .args) .g) (hold 0 0 none) (under ((c .before .before .before .before .before .before .before .before .before .before .before .before .before .args) .stream .now) ((c .before .before .before .before .before .before .before .before .before .before .before .before .before .args) .ranking) 0 ((c .before .before .before .before .before .before .before .before .before .before .before .before .before .args) .g) 0 (iter (on check (54 ∷ []) (word 54) (plus 1 ⨾ field′ ⨾ (on next (48 ∷ 45 ∷ []) (any ⨾ again′) (word 54)))))) field′ refl (((c .before .before .before .before .before .before .before .before .before .check-ahead) .result) .cursor) in
@@ -263,7 +264,8 @@ pub fields-returns-3 : (t : ℕ) → fields-lts.Need-returns-3 (
 unfolding read field′
 fields-returns-3 t c =
     let pl = (check-place ((c .before .before .before .before .before .before .before .before .before .before .before .before .before .before .before .before .before .args) .stream .now) ((c .before .before .before .before .before .before .before .before .before .before .before .before .before .before .loop) .at) 0 54 ((c .before .before .before .before .before .before .before .before .before .before .before .before .before .check-ahead) .ensures)) in
-    let g1 = looks (((c .before .before .before .before .before .before .before .before .before .before .before .before .before .before .loop) .inv) .4) (read ((c .before .before .before .before .before .before .before .before .before .before .before .before .before .before .before .before .before .args) .stream .now) (ranks ((c .before .before .before .before .before .before .before .before .before .before .before .before .before .before .before .before .before .args) .ranking)) 0 (readers ((c .before .before .before .before .before .before .before .before .before .before .before .before .before .before .before .before .before .args) .stream .now) (ranks ((c .before .before .before .before .before .before .before .before .before .before .before .before .before .before .before .before .before .args) .ranking)) ((c .before .before .before .before .before .before .before .before .before .before .before .before .before .before .before .before .before .args) .g)) (hold 0 0 none) (plus 1 ⨾ field′ ⨾ (on next (48 ∷ 45 ∷ []) (any ⨾ again′) (word 54))) (under ((c .before .before .before .before .before .before .before .before .before .before .before .before .before .before .before .before .before .args) .stream .now) ((c .before .before .before .before .before .before .before .before .before .before .before .before .before .before .before .before .before .args) .ranking) 0 ((c .before .before .before .before .before .before .before .before .before .before .before .before .before .before .before .before .before .args) .g) 0 (iter (on check (54 ∷ []) (word 54) (plus 1 ⨾ field′ ⨾ (on next (48 ∷ 45 ∷ []) (any ⨾ again′) (word 54))))))) (((c .before .before .before .before .before .before .before .before .before .before .before .before .before .check-ahead) .result) .cursor) (looping ((c .before .before .before .before .before .before .before .before .before .before .before .before .before .before .before .before .before .args) .stream .now) ((c .before .before .before .before .before .before .before .before .before .before .before .before .before .before .before .before .before .args) .ranking) 0 ((c .before .before .before .before .before .before .before .before .before .before .before .before .before .before .before .before .before .args) .g) 0 (on check (54 ∷ []) (word 54) (plus 1 ⨾ field′ ⨾ (on next (48 ∷ 45 ∷ []) (any ⨾ again′) (word 54)))) refl ((c .before .before .before .before .before .before .before .before .before .before .before .before .before .before .loop) .at) (((c .before .before .before .before .before .before .before .before .before .before .before .before .before .before .loop) .inv) .1) ∙ check-out ((c .before .before .before .before .before .before .before .before .before .before .before .before .before .before .before .before .before .args) .stream .now) (ranks ((c .before .before .before .before .before .before .before .before .before .before .before .before .before .before .before .before .before .args) .ranking)) 0 (readers ((c .before .before .before .before .before .before .before .before .before .before .before .before .before .before .before .before .before .args) .stream .now) (ranks ((c .before .before .before .before .before .before .before .before .before .before .before .before .before .before .before .before .before .args) .ranking)) ((c .before .before .before .before .before .before .before .before .before .before .before .before .before .before .before .before .before .args) .g)) (hold 0 0 none) (under ((c .before .before .before .before .before .before .before .before .before .before .before .before .before .before .before .before .before .args) .stream .now) ((c .before .before .before .before .before .before .before .before .before .before .before .before .before .before .before .before .before .args) .ranking) 0 ((c .before .before .before .before .before .before .before .before .before .before .before .before .before .before .before .before .before .args) .g) 0 (iter (on check (54 ∷ []) (word 54) (plus 1 ⨾ field′ ⨾ (on next (48 ∷ 45 ∷ []) (any ⨾ again′) (word 54)))))) ((c .before .before .before .before .before .before .before .before .before .before .before .before .before .before .loop) .at) 54 (word 54) (plus 1 ⨾ field′ ⨾ (on next (48 ∷ 45 ∷ []) (any ⨾ again′) (word 54))) (λ z. omega arith) ((c .before .before .before .before .before .before .before .before .before .before .before .before .before .check-ahead) .ensures) ((c .before .before .before .before .before .before .before .before .before .before .before .if1) .left)) pl in
+    let pl′ = (check-note ((c .before .before .before .before .before .before .before .before .before .before .before .before .before .before .before .before .before .args) .stream .now) ((c .before .before .before .before .before .before .before .before .before .before .before .before .before .before .loop) .at) 0 54 ((c .before .before .before .before .before .before .before .before .before .before .before .before .before .check-ahead) .ensures)) in
+    let g1 = looks (((c .before .before .before .before .before .before .before .before .before .before .before .before .before .before .loop) .inv) .4) (read ((c .before .before .before .before .before .before .before .before .before .before .before .before .before .before .before .before .before .args) .stream .now) (ranks ((c .before .before .before .before .before .before .before .before .before .before .before .before .before .before .before .before .before .args) .ranking)) 0 (readers ((c .before .before .before .before .before .before .before .before .before .before .before .before .before .before .before .before .before .args) .stream .now) (ranks ((c .before .before .before .before .before .before .before .before .before .before .before .before .before .before .before .before .before .args) .ranking)) ((c .before .before .before .before .before .before .before .before .before .before .before .before .before .before .before .before .before .args) .g)) (hold 0 0 none) (plus 1 ⨾ field′ ⨾ (on next (48 ∷ 45 ∷ []) (any ⨾ again′) (word 54))) (under ((c .before .before .before .before .before .before .before .before .before .before .before .before .before .before .before .before .before .args) .stream .now) ((c .before .before .before .before .before .before .before .before .before .before .before .before .before .before .before .before .before .args) .ranking) 0 ((c .before .before .before .before .before .before .before .before .before .before .before .before .before .before .before .before .before .args) .g) 0 (iter (on check (54 ∷ []) (word 54) (plus 1 ⨾ field′ ⨾ (on next (48 ∷ 45 ∷ []) (any ⨾ again′) (word 54))))))) (((c .before .before .before .before .before .before .before .before .before .before .before .before .before .check-ahead) .result) .cursor) (looping ((c .before .before .before .before .before .before .before .before .before .before .before .before .before .before .before .before .before .args) .stream .now) ((c .before .before .before .before .before .before .before .before .before .before .before .before .before .before .before .before .before .args) .ranking) 0 ((c .before .before .before .before .before .before .before .before .before .before .before .before .before .before .before .before .before .args) .g) 0 (on check (54 ∷ []) (word 54) (plus 1 ⨾ field′ ⨾ (on next (48 ∷ 45 ∷ []) (any ⨾ again′) (word 54)))) refl ((c .before .before .before .before .before .before .before .before .before .before .before .before .before .before .loop) .at) (((c .before .before .before .before .before .before .before .before .before .before .before .before .before .before .loop) .inv) .1) ∙ check-out ((c .before .before .before .before .before .before .before .before .before .before .before .before .before .before .before .before .before .args) .stream .now) (ranks ((c .before .before .before .before .before .before .before .before .before .before .before .before .before .before .before .before .before .args) .ranking)) 0 (readers ((c .before .before .before .before .before .before .before .before .before .before .before .before .before .before .before .before .before .args) .stream .now) (ranks ((c .before .before .before .before .before .before .before .before .before .before .before .before .before .before .before .before .before .args) .ranking)) ((c .before .before .before .before .before .before .before .before .before .before .before .before .before .before .before .before .before .args) .g)) (hold 0 0 none) (under ((c .before .before .before .before .before .before .before .before .before .before .before .before .before .before .before .before .before .args) .stream .now) ((c .before .before .before .before .before .before .before .before .before .before .before .before .before .before .before .before .before .args) .ranking) 0 ((c .before .before .before .before .before .before .before .before .before .before .before .before .before .before .before .before .before .args) .g) 0 (iter (on check (54 ∷ []) (word 54) (plus 1 ⨾ field′ ⨾ (on next (48 ∷ 45 ∷ []) (any ⨾ again′) (word 54)))))) ((c .before .before .before .before .before .before .before .before .before .before .before .before .before .before .loop) .at) 54 (word 54) (plus 1 ⨾ field′ ⨾ (on next (48 ∷ 45 ∷ []) (any ⨾ again′) (word 54))) (λ z. omega arith) ((c .before .before .before .before .before .before .before .before .before .before .before .before .before .check-ahead) .ensures) ((c .before .before .before .before .before .before .before .before .before .before .before .if1) .left)) pl pl′ in
     let w1 = weighs {s = ((c .before .before .before .before .before .before .before .before .before .before .before .before .before .before .before .before .before .args) .stream .now)} ((c .before .before .before .before .before .before .before .before .before .before .before .before .before .before .loop) .nodes) ((c .before .before .before .before .before .before .before .before .before .before .before .before .before .before .loop) .u) 0 1 (((c .before .before .before .before .before .before .before .before .before .before .before .before .before .check-ahead) .result) .cursor) (g1 .at) (g1 .room) in
     let g2 = goes g1 (read ((c .before .before .before .before .before .before .before .before .before .before .before .before .before .before .before .before .before .args) .stream .now) (ranks ((c .before .before .before .before .before .before .before .before .before .before .before .before .before .before .before .before .before .args) .ranking)) 0 (readers ((c .before .before .before .before .before .before .before .before .before .before .before .before .before .before .before .before .before .args) .stream .now) (ranks ((c .before .before .before .before .before .before .before .before .before .before .before .before .before .before .before .before .before .args) .ranking)) ((c .before .before .before .before .before .before .before .before .before .before .before .before .before .before .before .before .before .args) .g)) (hold 0 0 none) (field′ ⨾ (on next (48 ∷ 45 ∷ []) (any ⨾ again′) (word 54))) (under ((c .before .before .before .before .before .before .before .before .before .before .before .before .before .before .before .before .before .args) .stream .now) ((c .before .before .before .before .before .before .before .before .before .before .before .before .before .before .before .before .before .args) .ranking) 0 ((c .before .before .before .before .before .before .before .before .before .before .before .before .before .before .before .before .before .args) .g) 0 (iter (on check (54 ∷ []) (word 54) (plus 1 ⨾ field′ ⨾ (on next (48 ∷ 45 ∷ []) (any ⨾ again′) (word 54))))))) refl w1 (omega arith) in
     let q = settled ((c .before .before .before .before .before .before .before .before .before .before .before .before .before .before .before .before .before .args) .stream .now) ((c .before .before .before .before .before .before .before .before .before .before .before .before .before .before .before .before .before .args) .ranking) 0 ((c .before .before .before .before .before .before .before .before .before .before .before .before .before .before .before .before .before .args) .g) (hold 0 0 none) (under ((c .before .before .before .before .before .before .before .before .before .before .before .before .before .before .before .before .before .args) .stream .now) ((c .before .before .before .before .before .before .before .before .before .before .before .before .before .before .before .before .before .args) .ranking) 0 ((c .before .before .before .before .before .before .before .before .before .before .before .before .before .before .before .before .before .args) .g) 0 (iter (on check (54 ∷ []) (word 54) (plus 1 ⨾ field′ ⨾ (on next (48 ∷ 45 ∷ []) (any ⨾ again′) (word 54)))))) field′ refl (((c .before .before .before .before .before .before .before .before .before .before .before .before .before .check-ahead) .result) .cursor) in
@@ -327,14 +329,16 @@ pub fields-returns-4 : (t : ℕ) → fields-lts.Need-returns-4 (
 unfolding read field′
 fields-returns-4 t c =
     let pl = (check-place ((c .before .before .before .before .before .before .before .before .before .before .before .before .before .before .before .before .before .before .before .before .before .before .args) .stream .now) ((c .before .before .before .before .before .before .before .before .before .before .before .before .before .before .before .before .before .before .before .loop) .at) 0 54 ((c .before .before .before .before .before .before .before .before .before .before .before .before .before .before .before .before .before .before .check-ahead) .ensures)) in
-    let g1 = looks (((c .before .before .before .before .before .before .before .before .before .before .before .before .before .before .before .before .before .before .before .loop) .inv) .4) (read ((c .before .before .before .before .before .before .before .before .before .before .before .before .before .before .before .before .before .before .before .before .before .before .args) .stream .now) (ranks ((c .before .before .before .before .before .before .before .before .before .before .before .before .before .before .before .before .before .before .before .before .before .before .args) .ranking)) 0 (readers ((c .before .before .before .before .before .before .before .before .before .before .before .before .before .before .before .before .before .before .before .before .before .before .args) .stream .now) (ranks ((c .before .before .before .before .before .before .before .before .before .before .before .before .before .before .before .before .before .before .before .before .before .before .args) .ranking)) ((c .before .before .before .before .before .before .before .before .before .before .before .before .before .before .before .before .before .before .before .before .before .before .args) .g)) (hold 0 0 none) (plus 1 ⨾ field′ ⨾ (on next (48 ∷ 45 ∷ []) (any ⨾ again′) (word 54))) (under ((c .before .before .before .before .before .before .before .before .before .before .before .before .before .before .before .before .before .before .before .before .before .before .args) .stream .now) ((c .before .before .before .before .before .before .before .before .before .before .before .before .before .before .before .before .before .before .before .before .before .before .args) .ranking) 0 ((c .before .before .before .before .before .before .before .before .before .before .before .before .before .before .before .before .before .before .before .before .before .before .args) .g) 0 (iter (on check (54 ∷ []) (word 54) (plus 1 ⨾ field′ ⨾ (on next (48 ∷ 45 ∷ []) (any ⨾ again′) (word 54))))))) (((c .before .before .before .before .before .before .before .before .before .before .before .before .before .before .before .before .before .before .check-ahead) .result) .cursor) (looping ((c .before .before .before .before .before .before .before .before .before .before .before .before .before .before .before .before .before .before .before .before .before .before .args) .stream .now) ((c .before .before .before .before .before .before .before .before .before .before .before .before .before .before .before .before .before .before .before .before .before .before .args) .ranking) 0 ((c .before .before .before .before .before .before .before .before .before .before .before .before .before .before .before .before .before .before .before .before .before .before .args) .g) 0 (on check (54 ∷ []) (word 54) (plus 1 ⨾ field′ ⨾ (on next (48 ∷ 45 ∷ []) (any ⨾ again′) (word 54)))) refl ((c .before .before .before .before .before .before .before .before .before .before .before .before .before .before .before .before .before .before .before .loop) .at) (((c .before .before .before .before .before .before .before .before .before .before .before .before .before .before .before .before .before .before .before .loop) .inv) .1) ∙ check-out ((c .before .before .before .before .before .before .before .before .before .before .before .before .before .before .before .before .before .before .before .before .before .before .args) .stream .now) (ranks ((c .before .before .before .before .before .before .before .before .before .before .before .before .before .before .before .before .before .before .before .before .before .before .args) .ranking)) 0 (readers ((c .before .before .before .before .before .before .before .before .before .before .before .before .before .before .before .before .before .before .before .before .before .before .args) .stream .now) (ranks ((c .before .before .before .before .before .before .before .before .before .before .before .before .before .before .before .before .before .before .before .before .before .before .args) .ranking)) ((c .before .before .before .before .before .before .before .before .before .before .before .before .before .before .before .before .before .before .before .before .before .before .args) .g)) (hold 0 0 none) (under ((c .before .before .before .before .before .before .before .before .before .before .before .before .before .before .before .before .before .before .before .before .before .before .args) .stream .now) ((c .before .before .before .before .before .before .before .before .before .before .before .before .before .before .before .before .before .before .before .before .before .before .args) .ranking) 0 ((c .before .before .before .before .before .before .before .before .before .before .before .before .before .before .before .before .before .before .before .before .before .before .args) .g) 0 (iter (on check (54 ∷ []) (word 54) (plus 1 ⨾ field′ ⨾ (on next (48 ∷ 45 ∷ []) (any ⨾ again′) (word 54)))))) ((c .before .before .before .before .before .before .before .before .before .before .before .before .before .before .before .before .before .before .before .loop) .at) 54 (word 54) (plus 1 ⨾ field′ ⨾ (on next (48 ∷ 45 ∷ []) (any ⨾ again′) (word 54))) (λ z. omega arith) ((c .before .before .before .before .before .before .before .before .before .before .before .before .before .before .before .before .before .before .check-ahead) .ensures) ((c .before .before .before .before .before .before .before .before .before .before .before .before .before .before .before .before .if1) .left)) pl in
+    let pl′ = (check-note ((c .before .before .before .before .before .before .before .before .before .before .before .before .before .before .before .before .before .before .before .before .before .before .args) .stream .now) ((c .before .before .before .before .before .before .before .before .before .before .before .before .before .before .before .before .before .before .before .loop) .at) 0 54 ((c .before .before .before .before .before .before .before .before .before .before .before .before .before .before .before .before .before .before .check-ahead) .ensures)) in
+    let g1 = looks (((c .before .before .before .before .before .before .before .before .before .before .before .before .before .before .before .before .before .before .before .loop) .inv) .4) (read ((c .before .before .before .before .before .before .before .before .before .before .before .before .before .before .before .before .before .before .before .before .before .before .args) .stream .now) (ranks ((c .before .before .before .before .before .before .before .before .before .before .before .before .before .before .before .before .before .before .before .before .before .before .args) .ranking)) 0 (readers ((c .before .before .before .before .before .before .before .before .before .before .before .before .before .before .before .before .before .before .before .before .before .before .args) .stream .now) (ranks ((c .before .before .before .before .before .before .before .before .before .before .before .before .before .before .before .before .before .before .before .before .before .before .args) .ranking)) ((c .before .before .before .before .before .before .before .before .before .before .before .before .before .before .before .before .before .before .before .before .before .before .args) .g)) (hold 0 0 none) (plus 1 ⨾ field′ ⨾ (on next (48 ∷ 45 ∷ []) (any ⨾ again′) (word 54))) (under ((c .before .before .before .before .before .before .before .before .before .before .before .before .before .before .before .before .before .before .before .before .before .before .args) .stream .now) ((c .before .before .before .before .before .before .before .before .before .before .before .before .before .before .before .before .before .before .before .before .before .before .args) .ranking) 0 ((c .before .before .before .before .before .before .before .before .before .before .before .before .before .before .before .before .before .before .before .before .before .before .args) .g) 0 (iter (on check (54 ∷ []) (word 54) (plus 1 ⨾ field′ ⨾ (on next (48 ∷ 45 ∷ []) (any ⨾ again′) (word 54))))))) (((c .before .before .before .before .before .before .before .before .before .before .before .before .before .before .before .before .before .before .check-ahead) .result) .cursor) (looping ((c .before .before .before .before .before .before .before .before .before .before .before .before .before .before .before .before .before .before .before .before .before .before .args) .stream .now) ((c .before .before .before .before .before .before .before .before .before .before .before .before .before .before .before .before .before .before .before .before .before .before .args) .ranking) 0 ((c .before .before .before .before .before .before .before .before .before .before .before .before .before .before .before .before .before .before .before .before .before .before .args) .g) 0 (on check (54 ∷ []) (word 54) (plus 1 ⨾ field′ ⨾ (on next (48 ∷ 45 ∷ []) (any ⨾ again′) (word 54)))) refl ((c .before .before .before .before .before .before .before .before .before .before .before .before .before .before .before .before .before .before .before .loop) .at) (((c .before .before .before .before .before .before .before .before .before .before .before .before .before .before .before .before .before .before .before .loop) .inv) .1) ∙ check-out ((c .before .before .before .before .before .before .before .before .before .before .before .before .before .before .before .before .before .before .before .before .before .before .args) .stream .now) (ranks ((c .before .before .before .before .before .before .before .before .before .before .before .before .before .before .before .before .before .before .before .before .before .before .args) .ranking)) 0 (readers ((c .before .before .before .before .before .before .before .before .before .before .before .before .before .before .before .before .before .before .before .before .before .before .args) .stream .now) (ranks ((c .before .before .before .before .before .before .before .before .before .before .before .before .before .before .before .before .before .before .before .before .before .before .args) .ranking)) ((c .before .before .before .before .before .before .before .before .before .before .before .before .before .before .before .before .before .before .before .before .before .before .args) .g)) (hold 0 0 none) (under ((c .before .before .before .before .before .before .before .before .before .before .before .before .before .before .before .before .before .before .before .before .before .before .args) .stream .now) ((c .before .before .before .before .before .before .before .before .before .before .before .before .before .before .before .before .before .before .before .before .before .before .args) .ranking) 0 ((c .before .before .before .before .before .before .before .before .before .before .before .before .before .before .before .before .before .before .before .before .before .before .args) .g) 0 (iter (on check (54 ∷ []) (word 54) (plus 1 ⨾ field′ ⨾ (on next (48 ∷ 45 ∷ []) (any ⨾ again′) (word 54)))))) ((c .before .before .before .before .before .before .before .before .before .before .before .before .before .before .before .before .before .before .before .loop) .at) 54 (word 54) (plus 1 ⨾ field′ ⨾ (on next (48 ∷ 45 ∷ []) (any ⨾ again′) (word 54))) (λ z. omega arith) ((c .before .before .before .before .before .before .before .before .before .before .before .before .before .before .before .before .before .before .check-ahead) .ensures) ((c .before .before .before .before .before .before .before .before .before .before .before .before .before .before .before .before .if1) .left)) pl pl′ in
     let w1 = weighs {s = ((c .before .before .before .before .before .before .before .before .before .before .before .before .before .before .before .before .before .before .before .before .before .before .args) .stream .now)} ((c .before .before .before .before .before .before .before .before .before .before .before .before .before .before .before .before .before .before .before .loop) .nodes) ((c .before .before .before .before .before .before .before .before .before .before .before .before .before .before .before .before .before .before .before .loop) .u) 0 1 (((c .before .before .before .before .before .before .before .before .before .before .before .before .before .before .before .before .before .before .check-ahead) .result) .cursor) (g1 .at) (g1 .room) in
     let g2 = goes g1 (read ((c .before .before .before .before .before .before .before .before .before .before .before .before .before .before .before .before .before .before .before .before .before .before .args) .stream .now) (ranks ((c .before .before .before .before .before .before .before .before .before .before .before .before .before .before .before .before .before .before .before .before .before .before .args) .ranking)) 0 (readers ((c .before .before .before .before .before .before .before .before .before .before .before .before .before .before .before .before .before .before .before .before .before .before .args) .stream .now) (ranks ((c .before .before .before .before .before .before .before .before .before .before .before .before .before .before .before .before .before .before .before .before .before .before .args) .ranking)) ((c .before .before .before .before .before .before .before .before .before .before .before .before .before .before .before .before .before .before .before .before .before .before .args) .g)) (hold 0 0 none) (field′ ⨾ (on next (48 ∷ 45 ∷ []) (any ⨾ again′) (word 54))) (under ((c .before .before .before .before .before .before .before .before .before .before .before .before .before .before .before .before .before .before .before .before .before .before .args) .stream .now) ((c .before .before .before .before .before .before .before .before .before .before .before .before .before .before .before .before .before .before .before .before .before .before .args) .ranking) 0 ((c .before .before .before .before .before .before .before .before .before .before .before .before .before .before .before .before .before .before .before .before .before .before .args) .g) 0 (iter (on check (54 ∷ []) (word 54) (plus 1 ⨾ field′ ⨾ (on next (48 ∷ 45 ∷ []) (any ⨾ again′) (word 54))))))) refl w1 (omega arith) in
     let q = settled ((c .before .before .before .before .before .before .before .before .before .before .before .before .before .before .before .before .before .before .before .before .before .before .args) .stream .now) ((c .before .before .before .before .before .before .before .before .before .before .before .before .before .before .before .before .before .before .before .before .before .before .args) .ranking) 0 ((c .before .before .before .before .before .before .before .before .before .before .before .before .before .before .before .before .before .before .before .before .before .before .args) .g) (hold 0 0 none) (under ((c .before .before .before .before .before .before .before .before .before .before .before .before .before .before .before .before .before .before .before .before .before .before .args) .stream .now) ((c .before .before .before .before .before .before .before .before .before .before .before .before .before .before .before .before .before .before .before .before .before .before .args) .ranking) 0 ((c .before .before .before .before .before .before .before .before .before .before .before .before .before .before .before .before .before .before .before .before .before .before .args) .g) 0 (iter (on check (54 ∷ []) (word 54) (plus 1 ⨾ field′ ⨾ (on next (48 ∷ 45 ∷ []) (any ⨾ again′) (word 54)))))) field′ refl (((c .before .before .before .before .before .before .before .before .before .before .before .before .before .before .before .before .before .before .check-ahead) .result) .cursor) in
     let f2 = alter q (rw ((c .before .before .before .before .before .before .before .before .before .before .e2) .given .1) at ((c .before .before .before .before .before .before .before .before .before .before .before .before .before .before .field) .ensures)) in
     let g3 = revalue-going {w = ((c .before .before .before .before .before .before .before .before .before .before .before .before .before .before .before .before .before .before .before .loop) .n) + 1} (omega arith) (goes g2 (read ((c .before .before .before .before .before .before .before .before .before .before .before .before .before .before .before .before .before .before .before .before .before .before .args) .stream .now) (ranks ((c .before .before .before .before .before .before .before .before .before .before .before .before .before .before .before .before .before .before .before .before .before .before .args) .ranking)) 0 (readers ((c .before .before .before .before .before .before .before .before .before .before .before .before .before .before .before .before .before .before .before .before .before .before .args) .stream .now) (ranks ((c .before .before .before .before .before .before .before .before .before .before .before .before .before .before .before .before .before .before .before .before .before .before .args) .ranking)) ((c .before .before .before .before .before .before .before .before .before .before .before .before .before .before .before .before .before .before .before .before .before .before .args) .g)) (hold 0 0 none) (on next (48 ∷ 45 ∷ []) (any ⨾ again′) (word 54)) (under ((c .before .before .before .before .before .before .before .before .before .before .before .before .before .before .before .before .before .before .before .before .before .before .args) .stream .now) ((c .before .before .before .before .before .before .before .before .before .before .before .before .before .before .before .before .before .before .before .before .before .before .args) .ranking) 0 ((c .before .before .before .before .before .before .before .before .before .before .before .before .before .before .before .before .before .before .before .before .before .before .args) .g) 0 (iter (on check (54 ∷ []) (word 54) (plus 1 ⨾ field′ ⨾ (on next (48 ∷ 45 ∷ []) (any ⨾ again′) (word 54))))))) refl f2 (omega arith)) in
     let pn = (get-place ((c .before .before .before .before .before .before .before .before .before .before .before .before .before .before .before .before .before .before .before .before .before .before .args) .stream .now) ((c .before .before .before .before .before .before .before .before .before .before .e2) .given .0 .0) (sym ((c .before .before .before .before .before .before .before .before .get-next) .ensures) ∙ (c .before .before .before .before .before .before .t) .given .1)) in
-    let g4 = looks g3 (read ((c .before .before .before .before .before .before .before .before .before .before .before .before .before .before .before .before .before .before .before .before .before .before .args) .stream .now) (ranks ((c .before .before .before .before .before .before .before .before .before .before .before .before .before .before .before .before .before .before .before .before .before .before .args) .ranking)) 0 (readers ((c .before .before .before .before .before .before .before .before .before .before .before .before .before .before .before .before .before .before .before .before .before .before .args) .stream .now) (ranks ((c .before .before .before .before .before .before .before .before .before .before .before .before .before .before .before .before .before .before .before .before .before .before .args) .ranking)) ((c .before .before .before .before .before .before .before .before .before .before .before .before .before .before .before .before .before .before .before .before .before .before .args) .g)) (hold 0 0 none) (word 54) (under ((c .before .before .before .before .before .before .before .before .before .before .before .before .before .before .before .before .before .before .before .before .before .before .args) .stream .now) ((c .before .before .before .before .before .before .before .before .before .before .before .before .before .before .before .before .before .before .before .before .before .before .args) .ranking) 0 ((c .before .before .before .before .before .before .before .before .before .before .before .before .before .before .before .before .before .before .before .before .before .before .args) .g) 0 (iter (on check (54 ∷ []) (word 54) (plus 1 ⨾ field′ ⨾ (on next (48 ∷ 45 ∷ []) (any ⨾ again′) (word 54))))))) ((c .before .before .before .before .before .before .t) .given .0 .1 .0) (next-out ((c .before .before .before .before .before .before .before .before .before .before .before .before .before .before .before .before .before .before .before .before .before .before .args) .stream .now) (ranks ((c .before .before .before .before .before .before .before .before .before .before .before .before .before .before .before .before .before .before .before .before .before .before .args) .ranking)) 0 (readers ((c .before .before .before .before .before .before .before .before .before .before .before .before .before .before .before .before .before .before .before .before .before .before .args) .stream .now) (ranks ((c .before .before .before .before .before .before .before .before .before .before .before .before .before .before .before .before .before .before .before .before .before .before .args) .ranking)) ((c .before .before .before .before .before .before .before .before .before .before .before .before .before .before .before .before .before .before .before .before .before .before .args) .g)) (hold 0 0 none) (under ((c .before .before .before .before .before .before .before .before .before .before .before .before .before .before .before .before .before .before .before .before .before .before .args) .stream .now) ((c .before .before .before .before .before .before .before .before .before .before .before .before .before .before .before .before .before .before .before .before .before .before .args) .ranking) 0 ((c .before .before .before .before .before .before .before .before .before .before .before .before .before .before .before .before .before .before .before .before .before .before .args) .g) 0 (iter (on check (54 ∷ []) (word 54) (plus 1 ⨾ field′ ⨾ (on next (48 ∷ 45 ∷ []) (any ⨾ again′) (word 54)))))) ((c .before .before .before .before .before .before .before .before .before .before .e2) .given .0 .0) (48 ∷ 45 ∷ []) (any ⨾ again′) (word 54) (sym ((c .before .before .before .before .before .before .before .before .get-next) .ensures) ∙ (c .before .before .before .before .before .before .t) .given .1) (nor (((c .before .before .before .before .before .before .t) .given .0 .0) .kind) (48 ∷ 45 ∷ []) ((c .before .before .before .if2) .taken) ((c .before .if3) .taken))) pn in
+    let pn′ = (get-note ((c .before .before .before .before .before .before .before .before .before .before .before .before .before .before .before .before .before .before .before .before .before .before .args) .stream .now) ((c .before .before .before .before .before .before .before .before .before .before .e2) .given .0 .0) (sym ((c .before .before .before .before .before .before .before .before .get-next) .ensures) ∙ (c .before .before .before .before .before .before .t) .given .1)) in
+    let g4 = looks g3 (read ((c .before .before .before .before .before .before .before .before .before .before .before .before .before .before .before .before .before .before .before .before .before .before .args) .stream .now) (ranks ((c .before .before .before .before .before .before .before .before .before .before .before .before .before .before .before .before .before .before .before .before .before .before .args) .ranking)) 0 (readers ((c .before .before .before .before .before .before .before .before .before .before .before .before .before .before .before .before .before .before .before .before .before .before .args) .stream .now) (ranks ((c .before .before .before .before .before .before .before .before .before .before .before .before .before .before .before .before .before .before .before .before .before .before .args) .ranking)) ((c .before .before .before .before .before .before .before .before .before .before .before .before .before .before .before .before .before .before .before .before .before .before .args) .g)) (hold 0 0 none) (word 54) (under ((c .before .before .before .before .before .before .before .before .before .before .before .before .before .before .before .before .before .before .before .before .before .before .args) .stream .now) ((c .before .before .before .before .before .before .before .before .before .before .before .before .before .before .before .before .before .before .before .before .before .before .args) .ranking) 0 ((c .before .before .before .before .before .before .before .before .before .before .before .before .before .before .before .before .before .before .before .before .before .before .args) .g) 0 (iter (on check (54 ∷ []) (word 54) (plus 1 ⨾ field′ ⨾ (on next (48 ∷ 45 ∷ []) (any ⨾ again′) (word 54))))))) ((c .before .before .before .before .before .before .t) .given .0 .1 .0) (next-out ((c .before .before .before .before .before .before .before .before .before .before .before .before .before .before .before .before .before .before .before .before .before .before .args) .stream .now) (ranks ((c .before .before .before .before .before .before .before .before .before .before .before .before .before .before .before .before .before .before .before .before .before .before .args) .ranking)) 0 (readers ((c .before .before .before .before .before .before .before .before .before .before .before .before .before .before .before .before .before .before .before .before .before .before .args) .stream .now) (ranks ((c .before .before .before .before .before .before .before .before .before .before .before .before .before .before .before .before .before .before .before .before .before .before .args) .ranking)) ((c .before .before .before .before .before .before .before .before .before .before .before .before .before .before .before .before .before .before .before .before .before .before .args) .g)) (hold 0 0 none) (under ((c .before .before .before .before .before .before .before .before .before .before .before .before .before .before .before .before .before .before .before .before .before .before .args) .stream .now) ((c .before .before .before .before .before .before .before .before .before .before .before .before .before .before .before .before .before .before .before .before .before .before .args) .ranking) 0 ((c .before .before .before .before .before .before .before .before .before .before .before .before .before .before .before .before .before .before .before .before .before .before .args) .g) 0 (iter (on check (54 ∷ []) (word 54) (plus 1 ⨾ field′ ⨾ (on next (48 ∷ 45 ∷ []) (any ⨾ again′) (word 54)))))) ((c .before .before .before .before .before .before .before .before .before .before .e2) .given .0 .0) (48 ∷ 45 ∷ []) (any ⨾ again′) (word 54) (sym ((c .before .before .before .before .before .before .before .before .get-next) .ensures) ∙ (c .before .before .before .before .before .before .t) .given .1) (nor (((c .before .before .before .before .before .before .t) .given .0 .0) .kind) (48 ∷ 45 ∷ []) ((c .before .before .before .if2) .taken) ((c .before .if3) .taken))) pn pn′ in
     counted-sums ((c .before .before .before .before .before .before .before .before .before .before .before .before .before .before .before .before .before .before .before .before .before .before .args) .stream .now) (ranks ((c .before .before .before .before .before .before .before .before .before .before .before .before .before .before .before .before .before .before .before .before .before .before .args) .ranking)) 0 (readers ((c .before .before .before .before .before .before .before .before .before .before .before .before .before .before .before .before .before .before .before .before .before .before .args) .stream .now) (ranks ((c .before .before .before .before .before .before .before .before .before .before .before .before .before .before .before .before .before .before .before .before .before .before .args) .ranking)) ((c .before .before .before .before .before .before .before .before .before .before .before .before .before .before .before .before .before .before .before .before .before .before .args) .g)) (hold 0 0 none) (under ((c .before .before .before .before .before .before .before .before .before .before .before .before .before .before .before .before .before .before .before .before .before .before .args) .stream .now) ((c .before .before .before .before .before .before .before .before .before .before .before .before .before .before .before .before .before .before .before .before .before .before .args) .ranking) 0 ((c .before .before .before .before .before .before .before .before .before .before .before .before .before .before .before .before .before .before .before .before .before .before .args) .g) 0 (iter (on check (54 ∷ []) (word 54) (plus 1 ⨾ field′ ⨾ (on next (48 ∷ 45 ∷ []) (any ⨾ again′) (word 54)))))) ((c .before .before .before .before .before .before .t) .given .0 .1 .0) 54 refl refl (((c .before .before .before .before .before .before .before .before .before .before .before .before .before .before .before .before .before .before .before .loop) .inv) .0) (((c .before .before .before .before .before .before .before .before .before .before .before .before .before .before .before .before .before .before .before .before .before .before .args) .c) .place) (((c .before .before .before .before .before .before .before .before .before .before .before .before .before .before .before .before .before .before .before .before .before .before .args) .c) .place + 1) 0 g4 refl (omega (arith, g4 .later)) (omega (arith, g4 .room)) (omega (arith, ((c .before .before .before .before .before .before .before .before .before .before .before .before .before .before .before .before .before .before .before .loop) .inv) .3, pl, pn, f2 .later)) ((c .counted2) .result) ((c .counted2) .ensures)
 
 pub fields-take-next-requires : (t : ℕ) → fields-lts.Need-take-next-requires (
@@ -394,15 +398,17 @@ pub fields-returns-5 : (t : ℕ) → fields-lts.Need-returns-5 (
 unfolding read field′
 fields-returns-5 t c =
     let pl = (check-place ((c .before .before .before .before .before .before .before .before .before .before .before .before .before .before .before .before .before .before .before .before .before .before .before .args) .stream .now) ((c .before .before .before .before .before .before .before .before .before .before .before .before .before .before .before .before .before .before .before .before .loop) .at) 0 54 ((c .before .before .before .before .before .before .before .before .before .before .before .before .before .before .before .before .before .before .before .check-ahead) .ensures)) in
-    let g1 = looks (((c .before .before .before .before .before .before .before .before .before .before .before .before .before .before .before .before .before .before .before .before .loop) .inv) .4) (read ((c .before .before .before .before .before .before .before .before .before .before .before .before .before .before .before .before .before .before .before .before .before .before .before .args) .stream .now) (ranks ((c .before .before .before .before .before .before .before .before .before .before .before .before .before .before .before .before .before .before .before .before .before .before .before .args) .ranking)) 0 (readers ((c .before .before .before .before .before .before .before .before .before .before .before .before .before .before .before .before .before .before .before .before .before .before .before .args) .stream .now) (ranks ((c .before .before .before .before .before .before .before .before .before .before .before .before .before .before .before .before .before .before .before .before .before .before .before .args) .ranking)) ((c .before .before .before .before .before .before .before .before .before .before .before .before .before .before .before .before .before .before .before .before .before .before .before .args) .g)) (hold 0 0 none) (plus 1 ⨾ field′ ⨾ (on next (48 ∷ 45 ∷ []) (any ⨾ again′) (word 54))) (under ((c .before .before .before .before .before .before .before .before .before .before .before .before .before .before .before .before .before .before .before .before .before .before .before .args) .stream .now) ((c .before .before .before .before .before .before .before .before .before .before .before .before .before .before .before .before .before .before .before .before .before .before .before .args) .ranking) 0 ((c .before .before .before .before .before .before .before .before .before .before .before .before .before .before .before .before .before .before .before .before .before .before .before .args) .g) 0 (iter (on check (54 ∷ []) (word 54) (plus 1 ⨾ field′ ⨾ (on next (48 ∷ 45 ∷ []) (any ⨾ again′) (word 54))))))) (((c .before .before .before .before .before .before .before .before .before .before .before .before .before .before .before .before .before .before .before .check-ahead) .result) .cursor) (looping ((c .before .before .before .before .before .before .before .before .before .before .before .before .before .before .before .before .before .before .before .before .before .before .before .args) .stream .now) ((c .before .before .before .before .before .before .before .before .before .before .before .before .before .before .before .before .before .before .before .before .before .before .before .args) .ranking) 0 ((c .before .before .before .before .before .before .before .before .before .before .before .before .before .before .before .before .before .before .before .before .before .before .before .args) .g) 0 (on check (54 ∷ []) (word 54) (plus 1 ⨾ field′ ⨾ (on next (48 ∷ 45 ∷ []) (any ⨾ again′) (word 54)))) refl ((c .before .before .before .before .before .before .before .before .before .before .before .before .before .before .before .before .before .before .before .before .loop) .at) (((c .before .before .before .before .before .before .before .before .before .before .before .before .before .before .before .before .before .before .before .before .loop) .inv) .1) ∙ check-out ((c .before .before .before .before .before .before .before .before .before .before .before .before .before .before .before .before .before .before .before .before .before .before .before .args) .stream .now) (ranks ((c .before .before .before .before .before .before .before .before .before .before .before .before .before .before .before .before .before .before .before .before .before .before .before .args) .ranking)) 0 (readers ((c .before .before .before .before .before .before .before .before .before .before .before .before .before .before .before .before .before .before .before .before .before .before .before .args) .stream .now) (ranks ((c .before .before .before .before .before .before .before .before .before .before .before .before .before .before .before .before .before .before .before .before .before .before .before .args) .ranking)) ((c .before .before .before .before .before .before .before .before .before .before .before .before .before .before .before .before .before .before .before .before .before .before .before .args) .g)) (hold 0 0 none) (under ((c .before .before .before .before .before .before .before .before .before .before .before .before .before .before .before .before .before .before .before .before .before .before .before .args) .stream .now) ((c .before .before .before .before .before .before .before .before .before .before .before .before .before .before .before .before .before .before .before .before .before .before .before .args) .ranking) 0 ((c .before .before .before .before .before .before .before .before .before .before .before .before .before .before .before .before .before .before .before .before .before .before .before .args) .g) 0 (iter (on check (54 ∷ []) (word 54) (plus 1 ⨾ field′ ⨾ (on next (48 ∷ 45 ∷ []) (any ⨾ again′) (word 54)))))) ((c .before .before .before .before .before .before .before .before .before .before .before .before .before .before .before .before .before .before .before .before .loop) .at) 54 (word 54) (plus 1 ⨾ field′ ⨾ (on next (48 ∷ 45 ∷ []) (any ⨾ again′) (word 54))) (λ z. omega arith) ((c .before .before .before .before .before .before .before .before .before .before .before .before .before .before .before .before .before .before .before .check-ahead) .ensures) ((c .before .before .before .before .before .before .before .before .before .before .before .before .before .before .before .before .before .if1) .left)) pl in
+    let pl′ = (check-note ((c .before .before .before .before .before .before .before .before .before .before .before .before .before .before .before .before .before .before .before .before .before .before .before .args) .stream .now) ((c .before .before .before .before .before .before .before .before .before .before .before .before .before .before .before .before .before .before .before .before .loop) .at) 0 54 ((c .before .before .before .before .before .before .before .before .before .before .before .before .before .before .before .before .before .before .before .check-ahead) .ensures)) in
+    let g1 = looks (((c .before .before .before .before .before .before .before .before .before .before .before .before .before .before .before .before .before .before .before .before .loop) .inv) .4) (read ((c .before .before .before .before .before .before .before .before .before .before .before .before .before .before .before .before .before .before .before .before .before .before .before .args) .stream .now) (ranks ((c .before .before .before .before .before .before .before .before .before .before .before .before .before .before .before .before .before .before .before .before .before .before .before .args) .ranking)) 0 (readers ((c .before .before .before .before .before .before .before .before .before .before .before .before .before .before .before .before .before .before .before .before .before .before .before .args) .stream .now) (ranks ((c .before .before .before .before .before .before .before .before .before .before .before .before .before .before .before .before .before .before .before .before .before .before .before .args) .ranking)) ((c .before .before .before .before .before .before .before .before .before .before .before .before .before .before .before .before .before .before .before .before .before .before .before .args) .g)) (hold 0 0 none) (plus 1 ⨾ field′ ⨾ (on next (48 ∷ 45 ∷ []) (any ⨾ again′) (word 54))) (under ((c .before .before .before .before .before .before .before .before .before .before .before .before .before .before .before .before .before .before .before .before .before .before .before .args) .stream .now) ((c .before .before .before .before .before .before .before .before .before .before .before .before .before .before .before .before .before .before .before .before .before .before .before .args) .ranking) 0 ((c .before .before .before .before .before .before .before .before .before .before .before .before .before .before .before .before .before .before .before .before .before .before .before .args) .g) 0 (iter (on check (54 ∷ []) (word 54) (plus 1 ⨾ field′ ⨾ (on next (48 ∷ 45 ∷ []) (any ⨾ again′) (word 54))))))) (((c .before .before .before .before .before .before .before .before .before .before .before .before .before .before .before .before .before .before .before .check-ahead) .result) .cursor) (looping ((c .before .before .before .before .before .before .before .before .before .before .before .before .before .before .before .before .before .before .before .before .before .before .before .args) .stream .now) ((c .before .before .before .before .before .before .before .before .before .before .before .before .before .before .before .before .before .before .before .before .before .before .before .args) .ranking) 0 ((c .before .before .before .before .before .before .before .before .before .before .before .before .before .before .before .before .before .before .before .before .before .before .before .args) .g) 0 (on check (54 ∷ []) (word 54) (plus 1 ⨾ field′ ⨾ (on next (48 ∷ 45 ∷ []) (any ⨾ again′) (word 54)))) refl ((c .before .before .before .before .before .before .before .before .before .before .before .before .before .before .before .before .before .before .before .before .loop) .at) (((c .before .before .before .before .before .before .before .before .before .before .before .before .before .before .before .before .before .before .before .before .loop) .inv) .1) ∙ check-out ((c .before .before .before .before .before .before .before .before .before .before .before .before .before .before .before .before .before .before .before .before .before .before .before .args) .stream .now) (ranks ((c .before .before .before .before .before .before .before .before .before .before .before .before .before .before .before .before .before .before .before .before .before .before .before .args) .ranking)) 0 (readers ((c .before .before .before .before .before .before .before .before .before .before .before .before .before .before .before .before .before .before .before .before .before .before .before .args) .stream .now) (ranks ((c .before .before .before .before .before .before .before .before .before .before .before .before .before .before .before .before .before .before .before .before .before .before .before .args) .ranking)) ((c .before .before .before .before .before .before .before .before .before .before .before .before .before .before .before .before .before .before .before .before .before .before .before .args) .g)) (hold 0 0 none) (under ((c .before .before .before .before .before .before .before .before .before .before .before .before .before .before .before .before .before .before .before .before .before .before .before .args) .stream .now) ((c .before .before .before .before .before .before .before .before .before .before .before .before .before .before .before .before .before .before .before .before .before .before .before .args) .ranking) 0 ((c .before .before .before .before .before .before .before .before .before .before .before .before .before .before .before .before .before .before .before .before .before .before .before .args) .g) 0 (iter (on check (54 ∷ []) (word 54) (plus 1 ⨾ field′ ⨾ (on next (48 ∷ 45 ∷ []) (any ⨾ again′) (word 54)))))) ((c .before .before .before .before .before .before .before .before .before .before .before .before .before .before .before .before .before .before .before .before .loop) .at) 54 (word 54) (plus 1 ⨾ field′ ⨾ (on next (48 ∷ 45 ∷ []) (any ⨾ again′) (word 54))) (λ z. omega arith) ((c .before .before .before .before .before .before .before .before .before .before .before .before .before .before .before .before .before .before .before .check-ahead) .ensures) ((c .before .before .before .before .before .before .before .before .before .before .before .before .before .before .before .before .before .if1) .left)) pl pl′ in
     let w1 = weighs {s = ((c .before .before .before .before .before .before .before .before .before .before .before .before .before .before .before .before .before .before .before .before .before .before .before .args) .stream .now)} ((c .before .before .before .before .before .before .before .before .before .before .before .before .before .before .before .before .before .before .before .before .loop) .nodes) ((c .before .before .before .before .before .before .before .before .before .before .before .before .before .before .before .before .before .before .before .before .loop) .u) 0 1 (((c .before .before .before .before .before .before .before .before .before .before .before .before .before .before .before .before .before .before .before .check-ahead) .result) .cursor) (g1 .at) (g1 .room) in
     let g2 = goes g1 (read ((c .before .before .before .before .before .before .before .before .before .before .before .before .before .before .before .before .before .before .before .before .before .before .before .args) .stream .now) (ranks ((c .before .before .before .before .before .before .before .before .before .before .before .before .before .before .before .before .before .before .before .before .before .before .before .args) .ranking)) 0 (readers ((c .before .before .before .before .before .before .before .before .before .before .before .before .before .before .before .before .before .before .before .before .before .before .before .args) .stream .now) (ranks ((c .before .before .before .before .before .before .before .before .before .before .before .before .before .before .before .before .before .before .before .before .before .before .before .args) .ranking)) ((c .before .before .before .before .before .before .before .before .before .before .before .before .before .before .before .before .before .before .before .before .before .before .before .args) .g)) (hold 0 0 none) (field′ ⨾ (on next (48 ∷ 45 ∷ []) (any ⨾ again′) (word 54))) (under ((c .before .before .before .before .before .before .before .before .before .before .before .before .before .before .before .before .before .before .before .before .before .before .before .args) .stream .now) ((c .before .before .before .before .before .before .before .before .before .before .before .before .before .before .before .before .before .before .before .before .before .before .before .args) .ranking) 0 ((c .before .before .before .before .before .before .before .before .before .before .before .before .before .before .before .before .before .before .before .before .before .before .before .args) .g) 0 (iter (on check (54 ∷ []) (word 54) (plus 1 ⨾ field′ ⨾ (on next (48 ∷ 45 ∷ []) (any ⨾ again′) (word 54))))))) refl w1 (omega arith) in
     let q = settled ((c .before .before .before .before .before .before .before .before .before .before .before .before .before .before .before .before .before .before .before .before .before .before .before .args) .stream .now) ((c .before .before .before .before .before .before .before .before .before .before .before .before .before .before .before .before .before .before .before .before .before .before .before .args) .ranking) 0 ((c .before .before .before .before .before .before .before .before .before .before .before .before .before .before .before .before .before .before .before .before .before .before .before .args) .g) (hold 0 0 none) (under ((c .before .before .before .before .before .before .before .before .before .before .before .before .before .before .before .before .before .before .before .before .before .before .before .args) .stream .now) ((c .before .before .before .before .before .before .before .before .before .before .before .before .before .before .before .before .before .before .before .before .before .before .before .args) .ranking) 0 ((c .before .before .before .before .before .before .before .before .before .before .before .before .before .before .before .before .before .before .before .before .before .before .before .args) .g) 0 (iter (on check (54 ∷ []) (word 54) (plus 1 ⨾ field′ ⨾ (on next (48 ∷ 45 ∷ []) (any ⨾ again′) (word 54)))))) field′ refl (((c .before .before .before .before .before .before .before .before .before .before .before .before .before .before .before .before .before .before .before .check-ahead) .result) .cursor) in
     let f2 = alter q (rw ((c .before .before .before .before .before .before .before .before .before .before .before .e2) .given .1) at ((c .before .before .before .before .before .before .before .before .before .before .before .before .before .before .before .field) .ensures)) in
     let g3 = revalue-going {w = ((c .before .before .before .before .before .before .before .before .before .before .before .before .before .before .before .before .before .before .before .before .loop) .n) + 1} (omega arith) (goes g2 (read ((c .before .before .before .before .before .before .before .before .before .before .before .before .before .before .before .before .before .before .before .before .before .before .before .args) .stream .now) (ranks ((c .before .before .before .before .before .before .before .before .before .before .before .before .before .before .before .before .before .before .before .before .before .before .before .args) .ranking)) 0 (readers ((c .before .before .before .before .before .before .before .before .before .before .before .before .before .before .before .before .before .before .before .before .before .before .before .args) .stream .now) (ranks ((c .before .before .before .before .before .before .before .before .before .before .before .before .before .before .before .before .before .before .before .before .before .before .before .args) .ranking)) ((c .before .before .before .before .before .before .before .before .before .before .before .before .before .before .before .before .before .before .before .before .before .before .before .args) .g)) (hold 0 0 none) (on next (48 ∷ 45 ∷ []) (any ⨾ again′) (word 54)) (under ((c .before .before .before .before .before .before .before .before .before .before .before .before .before .before .before .before .before .before .before .before .before .before .before .args) .stream .now) ((c .before .before .before .before .before .before .before .before .before .before .before .before .before .before .before .before .before .before .before .before .before .before .before .args) .ranking) 0 ((c .before .before .before .before .before .before .before .before .before .before .before .before .before .before .before .before .before .before .before .before .before .before .before .args) .g) 0 (iter (on check (54 ∷ []) (word 54) (plus 1 ⨾ field′ ⨾ (on next (48 ∷ 45 ∷ []) (any ⨾ again′) (word 54))))))) refl f2 (omega arith)) in
     let pn = (get-place ((c .before .before .before .before .before .before .before .before .before .before .before .before .before .before .before .before .before .before .before .before .before .before .before .args) .stream .now) ((c .before .before .before .before .before .before .before .before .before .before .before .e2) .given .0 .0) (sym ((c .before .before .before .before .before .before .before .before .before .get-next) .ensures) ∙ (c .before .before .before .before .before .before .before .t) .given .1)) in
+    let pn′ = (get-note ((c .before .before .before .before .before .before .before .before .before .before .before .before .before .before .before .before .before .before .before .before .before .before .before .args) .stream .now) ((c .before .before .before .before .before .before .before .before .before .before .before .e2) .given .0 .0) (sym ((c .before .before .before .before .before .before .before .before .before .get-next) .ensures) ∙ (c .before .before .before .before .before .before .before .t) .given .1)) in
     let m = ⊎-elim (λ z. among (48 ∷ 45 ∷ []) (z .2 .left)) (λ z. among (48 ∷ 45 ∷ []) (z .left)) ((c .before .before .before .before .if2) .came) in
-    let g4 = looks g3 (read ((c .before .before .before .before .before .before .before .before .before .before .before .before .before .before .before .before .before .before .before .before .before .before .before .args) .stream .now) (ranks ((c .before .before .before .before .before .before .before .before .before .before .before .before .before .before .before .before .before .before .before .before .before .before .before .args) .ranking)) 0 (readers ((c .before .before .before .before .before .before .before .before .before .before .before .before .before .before .before .before .before .before .before .before .before .before .before .args) .stream .now) (ranks ((c .before .before .before .before .before .before .before .before .before .before .before .before .before .before .before .before .before .before .before .before .before .before .before .args) .ranking)) ((c .before .before .before .before .before .before .before .before .before .before .before .before .before .before .before .before .before .before .before .before .before .before .before .args) .g)) (hold 0 0 none) (any ⨾ again′) (under ((c .before .before .before .before .before .before .before .before .before .before .before .before .before .before .before .before .before .before .before .before .before .before .before .args) .stream .now) ((c .before .before .before .before .before .before .before .before .before .before .before .before .before .before .before .before .before .before .before .before .before .before .before .args) .ranking) 0 ((c .before .before .before .before .before .before .before .before .before .before .before .before .before .before .before .before .before .before .before .before .before .before .before .args) .g) 0 (iter (on check (54 ∷ []) (word 54) (plus 1 ⨾ field′ ⨾ (on next (48 ∷ 45 ∷ []) (any ⨾ again′) (word 54))))))) ((c .before .before .before .before .before .before .before .t) .given .0 .1 .0) (next-in ((c .before .before .before .before .before .before .before .before .before .before .before .before .before .before .before .before .before .before .before .before .before .before .before .args) .stream .now) (ranks ((c .before .before .before .before .before .before .before .before .before .before .before .before .before .before .before .before .before .before .before .before .before .before .before .args) .ranking)) 0 (readers ((c .before .before .before .before .before .before .before .before .before .before .before .before .before .before .before .before .before .before .before .before .before .before .before .args) .stream .now) (ranks ((c .before .before .before .before .before .before .before .before .before .before .before .before .before .before .before .before .before .before .before .before .before .before .before .args) .ranking)) ((c .before .before .before .before .before .before .before .before .before .before .before .before .before .before .before .before .before .before .before .before .before .before .before .args) .g)) (hold 0 0 none) (under ((c .before .before .before .before .before .before .before .before .before .before .before .before .before .before .before .before .before .before .before .before .before .before .before .args) .stream .now) ((c .before .before .before .before .before .before .before .before .before .before .before .before .before .before .before .before .before .before .before .before .before .before .before .args) .ranking) 0 ((c .before .before .before .before .before .before .before .before .before .before .before .before .before .before .before .before .before .before .before .before .before .before .before .args) .g) 0 (iter (on check (54 ∷ []) (word 54) (plus 1 ⨾ field′ ⨾ (on next (48 ∷ 45 ∷ []) (any ⨾ again′) (word 54)))))) ((c .before .before .before .before .before .before .before .before .before .before .before .e2) .given .0 .0) (48 ∷ 45 ∷ []) (any ⨾ again′) (word 54) (sym ((c .before .before .before .before .before .before .before .before .before .get-next) .ensures) ∙ (c .before .before .before .before .before .before .before .t) .given .1) m) pn in
+    let g4 = looks g3 (read ((c .before .before .before .before .before .before .before .before .before .before .before .before .before .before .before .before .before .before .before .before .before .before .before .args) .stream .now) (ranks ((c .before .before .before .before .before .before .before .before .before .before .before .before .before .before .before .before .before .before .before .before .before .before .before .args) .ranking)) 0 (readers ((c .before .before .before .before .before .before .before .before .before .before .before .before .before .before .before .before .before .before .before .before .before .before .before .args) .stream .now) (ranks ((c .before .before .before .before .before .before .before .before .before .before .before .before .before .before .before .before .before .before .before .before .before .before .before .args) .ranking)) ((c .before .before .before .before .before .before .before .before .before .before .before .before .before .before .before .before .before .before .before .before .before .before .before .args) .g)) (hold 0 0 none) (any ⨾ again′) (under ((c .before .before .before .before .before .before .before .before .before .before .before .before .before .before .before .before .before .before .before .before .before .before .before .args) .stream .now) ((c .before .before .before .before .before .before .before .before .before .before .before .before .before .before .before .before .before .before .before .before .before .before .before .args) .ranking) 0 ((c .before .before .before .before .before .before .before .before .before .before .before .before .before .before .before .before .before .before .before .before .before .before .before .args) .g) 0 (iter (on check (54 ∷ []) (word 54) (plus 1 ⨾ field′ ⨾ (on next (48 ∷ 45 ∷ []) (any ⨾ again′) (word 54))))))) ((c .before .before .before .before .before .before .before .t) .given .0 .1 .0) (next-in ((c .before .before .before .before .before .before .before .before .before .before .before .before .before .before .before .before .before .before .before .before .before .before .before .args) .stream .now) (ranks ((c .before .before .before .before .before .before .before .before .before .before .before .before .before .before .before .before .before .before .before .before .before .before .before .args) .ranking)) 0 (readers ((c .before .before .before .before .before .before .before .before .before .before .before .before .before .before .before .before .before .before .before .before .before .before .before .args) .stream .now) (ranks ((c .before .before .before .before .before .before .before .before .before .before .before .before .before .before .before .before .before .before .before .before .before .before .before .args) .ranking)) ((c .before .before .before .before .before .before .before .before .before .before .before .before .before .before .before .before .before .before .before .before .before .before .before .args) .g)) (hold 0 0 none) (under ((c .before .before .before .before .before .before .before .before .before .before .before .before .before .before .before .before .before .before .before .before .before .before .before .args) .stream .now) ((c .before .before .before .before .before .before .before .before .before .before .before .before .before .before .before .before .before .before .before .before .before .before .before .args) .ranking) 0 ((c .before .before .before .before .before .before .before .before .before .before .before .before .before .before .before .before .before .before .before .before .before .before .before .args) .g) 0 (iter (on check (54 ∷ []) (word 54) (plus 1 ⨾ field′ ⨾ (on next (48 ∷ 45 ∷ []) (any ⨾ again′) (word 54)))))) ((c .before .before .before .before .before .before .before .before .before .before .before .e2) .given .0 .0) (48 ∷ 45 ∷ []) (any ⨾ again′) (word 54) (sym ((c .before .before .before .before .before .before .before .before .before .get-next) .ensures) ∙ (c .before .before .before .before .before .before .before .t) .given .1) m) pn pn′ in
     fails g4 (stop _ (any-fail ((c .before .before .before .before .before .before .before .before .before .before .before .before .before .before .before .before .before .before .before .before .before .before .before .args) .stream .now) (ranks ((c .before .before .before .before .before .before .before .before .before .before .before .before .before .before .before .before .before .before .before .before .before .before .before .args) .ranking)) 0 (readers ((c .before .before .before .before .before .before .before .before .before .before .before .before .before .before .before .before .before .before .before .before .before .before .before .args) .stream .now) (ranks ((c .before .before .before .before .before .before .before .before .before .before .before .before .before .before .before .before .before .before .before .before .before .before .before .args) .ranking)) ((c .before .before .before .before .before .before .before .before .before .before .before .before .before .before .before .before .before .before .before .before .before .before .before .args) .g)) (hold 0 0 none) (under ((c .before .before .before .before .before .before .before .before .before .before .before .before .before .before .before .before .before .before .before .before .before .before .before .args) .stream .now) ((c .before .before .before .before .before .before .before .before .before .before .before .before .before .before .before .before .before .before .before .before .before .before .before .args) .ranking) 0 ((c .before .before .before .before .before .before .before .before .before .before .before .before .before .before .before .before .before .before .before .before .before .before .before .args) .g) 0 (iter (on check (54 ∷ []) (word 54) (plus 1 ⨾ field′ ⨾ (on next (48 ∷ 45 ∷ []) (any ⨾ again′) (word 54)))))) ((c .before .before .before .before .before .before .before .t) .given .0 .1 .0) ((sym ((c .before .before .before .take-next) .ensures)) ∙ (c .before .e4) .given .1)))
 
 pub fields-enum-known-h : (t : ℕ) → fields-lts.Need-enum-known-h (
@@ -451,14 +457,16 @@ pub fields-loop-again : (t : ℕ) → fields-lts.Need-loop-again (
 unfolding read field′
 fields-loop-again t c =
     let pl = (check-place ((c .before .before .before .before .before .before .before .before .before .before .before .before .before .before .before .before .before .before .before .before .before .before .before .args) .stream .now) ((c .before .before .before .before .before .before .before .before .before .before .before .before .before .before .before .before .before .before .before .before .loop) .at) 0 54 ((c .before .before .before .before .before .before .before .before .before .before .before .before .before .before .before .before .before .before .before .check-ahead) .ensures)) in
-    let g1 = looks (((c .before .before .before .before .before .before .before .before .before .before .before .before .before .before .before .before .before .before .before .before .loop) .inv) .4) (read ((c .before .before .before .before .before .before .before .before .before .before .before .before .before .before .before .before .before .before .before .before .before .before .before .args) .stream .now) (ranks ((c .before .before .before .before .before .before .before .before .before .before .before .before .before .before .before .before .before .before .before .before .before .before .before .args) .ranking)) 0 (readers ((c .before .before .before .before .before .before .before .before .before .before .before .before .before .before .before .before .before .before .before .before .before .before .before .args) .stream .now) (ranks ((c .before .before .before .before .before .before .before .before .before .before .before .before .before .before .before .before .before .before .before .before .before .before .before .args) .ranking)) ((c .before .before .before .before .before .before .before .before .before .before .before .before .before .before .before .before .before .before .before .before .before .before .before .args) .g)) (hold 0 0 none) (plus 1 ⨾ field′ ⨾ (on next (48 ∷ 45 ∷ []) (any ⨾ again′) (word 54))) (under ((c .before .before .before .before .before .before .before .before .before .before .before .before .before .before .before .before .before .before .before .before .before .before .before .args) .stream .now) ((c .before .before .before .before .before .before .before .before .before .before .before .before .before .before .before .before .before .before .before .before .before .before .before .args) .ranking) 0 ((c .before .before .before .before .before .before .before .before .before .before .before .before .before .before .before .before .before .before .before .before .before .before .before .args) .g) 0 (iter (on check (54 ∷ []) (word 54) (plus 1 ⨾ field′ ⨾ (on next (48 ∷ 45 ∷ []) (any ⨾ again′) (word 54))))))) (((c .before .before .before .before .before .before .before .before .before .before .before .before .before .before .before .before .before .before .before .check-ahead) .result) .cursor) (looping ((c .before .before .before .before .before .before .before .before .before .before .before .before .before .before .before .before .before .before .before .before .before .before .before .args) .stream .now) ((c .before .before .before .before .before .before .before .before .before .before .before .before .before .before .before .before .before .before .before .before .before .before .before .args) .ranking) 0 ((c .before .before .before .before .before .before .before .before .before .before .before .before .before .before .before .before .before .before .before .before .before .before .before .args) .g) 0 (on check (54 ∷ []) (word 54) (plus 1 ⨾ field′ ⨾ (on next (48 ∷ 45 ∷ []) (any ⨾ again′) (word 54)))) refl ((c .before .before .before .before .before .before .before .before .before .before .before .before .before .before .before .before .before .before .before .before .loop) .at) (((c .before .before .before .before .before .before .before .before .before .before .before .before .before .before .before .before .before .before .before .before .loop) .inv) .1) ∙ check-out ((c .before .before .before .before .before .before .before .before .before .before .before .before .before .before .before .before .before .before .before .before .before .before .before .args) .stream .now) (ranks ((c .before .before .before .before .before .before .before .before .before .before .before .before .before .before .before .before .before .before .before .before .before .before .before .args) .ranking)) 0 (readers ((c .before .before .before .before .before .before .before .before .before .before .before .before .before .before .before .before .before .before .before .before .before .before .before .args) .stream .now) (ranks ((c .before .before .before .before .before .before .before .before .before .before .before .before .before .before .before .before .before .before .before .before .before .before .before .args) .ranking)) ((c .before .before .before .before .before .before .before .before .before .before .before .before .before .before .before .before .before .before .before .before .before .before .before .args) .g)) (hold 0 0 none) (under ((c .before .before .before .before .before .before .before .before .before .before .before .before .before .before .before .before .before .before .before .before .before .before .before .args) .stream .now) ((c .before .before .before .before .before .before .before .before .before .before .before .before .before .before .before .before .before .before .before .before .before .before .before .args) .ranking) 0 ((c .before .before .before .before .before .before .before .before .before .before .before .before .before .before .before .before .before .before .before .before .before .before .before .args) .g) 0 (iter (on check (54 ∷ []) (word 54) (plus 1 ⨾ field′ ⨾ (on next (48 ∷ 45 ∷ []) (any ⨾ again′) (word 54)))))) ((c .before .before .before .before .before .before .before .before .before .before .before .before .before .before .before .before .before .before .before .before .loop) .at) 54 (word 54) (plus 1 ⨾ field′ ⨾ (on next (48 ∷ 45 ∷ []) (any ⨾ again′) (word 54))) (λ z. omega arith) ((c .before .before .before .before .before .before .before .before .before .before .before .before .before .before .before .before .before .before .before .check-ahead) .ensures) ((c .before .before .before .before .before .before .before .before .before .before .before .before .before .before .before .before .before .if1) .left)) pl in
+    let pl′ = (check-note ((c .before .before .before .before .before .before .before .before .before .before .before .before .before .before .before .before .before .before .before .before .before .before .before .args) .stream .now) ((c .before .before .before .before .before .before .before .before .before .before .before .before .before .before .before .before .before .before .before .before .loop) .at) 0 54 ((c .before .before .before .before .before .before .before .before .before .before .before .before .before .before .before .before .before .before .before .check-ahead) .ensures)) in
+    let g1 = looks (((c .before .before .before .before .before .before .before .before .before .before .before .before .before .before .before .before .before .before .before .before .loop) .inv) .4) (read ((c .before .before .before .before .before .before .before .before .before .before .before .before .before .before .before .before .before .before .before .before .before .before .before .args) .stream .now) (ranks ((c .before .before .before .before .before .before .before .before .before .before .before .before .before .before .before .before .before .before .before .before .before .before .before .args) .ranking)) 0 (readers ((c .before .before .before .before .before .before .before .before .before .before .before .before .before .before .before .before .before .before .before .before .before .before .before .args) .stream .now) (ranks ((c .before .before .before .before .before .before .before .before .before .before .before .before .before .before .before .before .before .before .before .before .before .before .before .args) .ranking)) ((c .before .before .before .before .before .before .before .before .before .before .before .before .before .before .before .before .before .before .before .before .before .before .before .args) .g)) (hold 0 0 none) (plus 1 ⨾ field′ ⨾ (on next (48 ∷ 45 ∷ []) (any ⨾ again′) (word 54))) (under ((c .before .before .before .before .before .before .before .before .before .before .before .before .before .before .before .before .before .before .before .before .before .before .before .args) .stream .now) ((c .before .before .before .before .before .before .before .before .before .before .before .before .before .before .before .before .before .before .before .before .before .before .before .args) .ranking) 0 ((c .before .before .before .before .before .before .before .before .before .before .before .before .before .before .before .before .before .before .before .before .before .before .before .args) .g) 0 (iter (on check (54 ∷ []) (word 54) (plus 1 ⨾ field′ ⨾ (on next (48 ∷ 45 ∷ []) (any ⨾ again′) (word 54))))))) (((c .before .before .before .before .before .before .before .before .before .before .before .before .before .before .before .before .before .before .before .check-ahead) .result) .cursor) (looping ((c .before .before .before .before .before .before .before .before .before .before .before .before .before .before .before .before .before .before .before .before .before .before .before .args) .stream .now) ((c .before .before .before .before .before .before .before .before .before .before .before .before .before .before .before .before .before .before .before .before .before .before .before .args) .ranking) 0 ((c .before .before .before .before .before .before .before .before .before .before .before .before .before .before .before .before .before .before .before .before .before .before .before .args) .g) 0 (on check (54 ∷ []) (word 54) (plus 1 ⨾ field′ ⨾ (on next (48 ∷ 45 ∷ []) (any ⨾ again′) (word 54)))) refl ((c .before .before .before .before .before .before .before .before .before .before .before .before .before .before .before .before .before .before .before .before .loop) .at) (((c .before .before .before .before .before .before .before .before .before .before .before .before .before .before .before .before .before .before .before .before .loop) .inv) .1) ∙ check-out ((c .before .before .before .before .before .before .before .before .before .before .before .before .before .before .before .before .before .before .before .before .before .before .before .args) .stream .now) (ranks ((c .before .before .before .before .before .before .before .before .before .before .before .before .before .before .before .before .before .before .before .before .before .before .before .args) .ranking)) 0 (readers ((c .before .before .before .before .before .before .before .before .before .before .before .before .before .before .before .before .before .before .before .before .before .before .before .args) .stream .now) (ranks ((c .before .before .before .before .before .before .before .before .before .before .before .before .before .before .before .before .before .before .before .before .before .before .before .args) .ranking)) ((c .before .before .before .before .before .before .before .before .before .before .before .before .before .before .before .before .before .before .before .before .before .before .before .args) .g)) (hold 0 0 none) (under ((c .before .before .before .before .before .before .before .before .before .before .before .before .before .before .before .before .before .before .before .before .before .before .before .args) .stream .now) ((c .before .before .before .before .before .before .before .before .before .before .before .before .before .before .before .before .before .before .before .before .before .before .before .args) .ranking) 0 ((c .before .before .before .before .before .before .before .before .before .before .before .before .before .before .before .before .before .before .before .before .before .before .before .args) .g) 0 (iter (on check (54 ∷ []) (word 54) (plus 1 ⨾ field′ ⨾ (on next (48 ∷ 45 ∷ []) (any ⨾ again′) (word 54)))))) ((c .before .before .before .before .before .before .before .before .before .before .before .before .before .before .before .before .before .before .before .before .loop) .at) 54 (word 54) (plus 1 ⨾ field′ ⨾ (on next (48 ∷ 45 ∷ []) (any ⨾ again′) (word 54))) (λ z. omega arith) ((c .before .before .before .before .before .before .before .before .before .before .before .before .before .before .before .before .before .before .before .check-ahead) .ensures) ((c .before .before .before .before .before .before .before .before .before .before .before .before .before .before .before .before .before .if1) .left)) pl pl′ in
     let w1 = weighs {s = ((c .before .before .before .before .before .before .before .before .before .before .before .before .before .before .before .before .before .before .before .before .before .before .before .args) .stream .now)} ((c .before .before .before .before .before .before .before .before .before .before .before .before .before .before .before .before .before .before .before .before .loop) .nodes) ((c .before .before .before .before .before .before .before .before .before .before .before .before .before .before .before .before .before .before .before .before .loop) .u) 0 1 (((c .before .before .before .before .before .before .before .before .before .before .before .before .before .before .before .before .before .before .before .check-ahead) .result) .cursor) (g1 .at) (g1 .room) in
     let g2 = goes g1 (read ((c .before .before .before .before .before .before .before .before .before .before .before .before .before .before .before .before .before .before .before .before .before .before .before .args) .stream .now) (ranks ((c .before .before .before .before .before .before .before .before .before .before .before .before .before .before .before .before .before .before .before .before .before .before .before .args) .ranking)) 0 (readers ((c .before .before .before .before .before .before .before .before .before .before .before .before .before .before .before .before .before .before .before .before .before .before .before .args) .stream .now) (ranks ((c .before .before .before .before .before .before .before .before .before .before .before .before .before .before .before .before .before .before .before .before .before .before .before .args) .ranking)) ((c .before .before .before .before .before .before .before .before .before .before .before .before .before .before .before .before .before .before .before .before .before .before .before .args) .g)) (hold 0 0 none) (field′ ⨾ (on next (48 ∷ 45 ∷ []) (any ⨾ again′) (word 54))) (under ((c .before .before .before .before .before .before .before .before .before .before .before .before .before .before .before .before .before .before .before .before .before .before .before .args) .stream .now) ((c .before .before .before .before .before .before .before .before .before .before .before .before .before .before .before .before .before .before .before .before .before .before .before .args) .ranking) 0 ((c .before .before .before .before .before .before .before .before .before .before .before .before .before .before .before .before .before .before .before .before .before .before .before .args) .g) 0 (iter (on check (54 ∷ []) (word 54) (plus 1 ⨾ field′ ⨾ (on next (48 ∷ 45 ∷ []) (any ⨾ again′) (word 54))))))) refl w1 (omega arith) in
     let q = settled ((c .before .before .before .before .before .before .before .before .before .before .before .before .before .before .before .before .before .before .before .before .before .before .before .args) .stream .now) ((c .before .before .before .before .before .before .before .before .before .before .before .before .before .before .before .before .before .before .before .before .before .before .before .args) .ranking) 0 ((c .before .before .before .before .before .before .before .before .before .before .before .before .before .before .before .before .before .before .before .before .before .before .before .args) .g) (hold 0 0 none) (under ((c .before .before .before .before .before .before .before .before .before .before .before .before .before .before .before .before .before .before .before .before .before .before .before .args) .stream .now) ((c .before .before .before .before .before .before .before .before .before .before .before .before .before .before .before .before .before .before .before .before .before .before .before .args) .ranking) 0 ((c .before .before .before .before .before .before .before .before .before .before .before .before .before .before .before .before .before .before .before .before .before .before .before .args) .g) 0 (iter (on check (54 ∷ []) (word 54) (plus 1 ⨾ field′ ⨾ (on next (48 ∷ 45 ∷ []) (any ⨾ again′) (word 54)))))) field′ refl (((c .before .before .before .before .before .before .before .before .before .before .before .before .before .before .before .before .before .before .before .check-ahead) .result) .cursor) in
     let f2 = alter q (rw ((c .before .before .before .before .before .before .before .before .before .before .before .e2) .given .1) at ((c .before .before .before .before .before .before .before .before .before .before .before .before .before .before .before .field) .ensures)) in
     let g3 = revalue-going {w = ((c .before .before .before .before .before .before .before .before .before .before .before .before .before .before .before .before .before .before .before .before .loop) .n) + 1} (omega arith) (goes g2 (read ((c .before .before .before .before .before .before .before .before .before .before .before .before .before .before .before .before .before .before .before .before .before .before .before .args) .stream .now) (ranks ((c .before .before .before .before .before .before .before .before .before .before .before .before .before .before .before .before .before .before .before .before .before .before .before .args) .ranking)) 0 (readers ((c .before .before .before .before .before .before .before .before .before .before .before .before .before .before .before .before .before .before .before .before .before .before .before .args) .stream .now) (ranks ((c .before .before .before .before .before .before .before .before .before .before .before .before .before .before .before .before .before .before .before .before .before .before .before .args) .ranking)) ((c .before .before .before .before .before .before .before .before .before .before .before .before .before .before .before .before .before .before .before .before .before .before .before .args) .g)) (hold 0 0 none) (on next (48 ∷ 45 ∷ []) (any ⨾ again′) (word 54)) (under ((c .before .before .before .before .before .before .before .before .before .before .before .before .before .before .before .before .before .before .before .before .before .before .before .args) .stream .now) ((c .before .before .before .before .before .before .before .before .before .before .before .before .before .before .before .before .before .before .before .before .before .before .before .args) .ranking) 0 ((c .before .before .before .before .before .before .before .before .before .before .before .before .before .before .before .before .before .before .before .before .before .before .before .args) .g) 0 (iter (on check (54 ∷ []) (word 54) (plus 1 ⨾ field′ ⨾ (on next (48 ∷ 45 ∷ []) (any ⨾ again′) (word 54))))))) refl f2 (omega arith)) in
     let pn = (get-place ((c .before .before .before .before .before .before .before .before .before .before .before .before .before .before .before .before .before .before .before .before .before .before .before .args) .stream .now) ((c .before .before .before .before .before .before .before .before .before .before .before .e2) .given .0 .0) (sym ((c .before .before .before .before .before .before .before .before .before .get-next) .ensures) ∙ (c .before .before .before .before .before .before .before .t) .given .1)) in
+    let pn′ = (get-note ((c .before .before .before .before .before .before .before .before .before .before .before .before .before .before .before .before .before .before .before .before .before .before .before .args) .stream .now) ((c .before .before .before .before .before .before .before .before .before .before .before .e2) .given .0 .0) (sym ((c .before .before .before .before .before .before .before .before .before .get-next) .ensures) ∙ (c .before .before .before .before .before .before .before .t) .given .1)) in
     let m = ⊎-elim (λ z. among (48 ∷ 45 ∷ []) (z .2 .left)) (λ z. among (48 ∷ 45 ∷ []) (z .left)) ((c .before .before .before .before .if2) .came) in
-    let g4 = looks g3 (read ((c .before .before .before .before .before .before .before .before .before .before .before .before .before .before .before .before .before .before .before .before .before .before .before .args) .stream .now) (ranks ((c .before .before .before .before .before .before .before .before .before .before .before .before .before .before .before .before .before .before .before .before .before .before .before .args) .ranking)) 0 (readers ((c .before .before .before .before .before .before .before .before .before .before .before .before .before .before .before .before .before .before .before .before .before .before .before .args) .stream .now) (ranks ((c .before .before .before .before .before .before .before .before .before .before .before .before .before .before .before .before .before .before .before .before .before .before .before .args) .ranking)) ((c .before .before .before .before .before .before .before .before .before .before .before .before .before .before .before .before .before .before .before .before .before .before .before .args) .g)) (hold 0 0 none) (any ⨾ again′) (under ((c .before .before .before .before .before .before .before .before .before .before .before .before .before .before .before .before .before .before .before .before .before .before .before .args) .stream .now) ((c .before .before .before .before .before .before .before .before .before .before .before .before .before .before .before .before .before .before .before .before .before .before .before .args) .ranking) 0 ((c .before .before .before .before .before .before .before .before .before .before .before .before .before .before .before .before .before .before .before .before .before .before .before .args) .g) 0 (iter (on check (54 ∷ []) (word 54) (plus 1 ⨾ field′ ⨾ (on next (48 ∷ 45 ∷ []) (any ⨾ again′) (word 54))))))) ((c .before .before .before .before .before .before .before .t) .given .0 .1 .0) (next-in ((c .before .before .before .before .before .before .before .before .before .before .before .before .before .before .before .before .before .before .before .before .before .before .before .args) .stream .now) (ranks ((c .before .before .before .before .before .before .before .before .before .before .before .before .before .before .before .before .before .before .before .before .before .before .before .args) .ranking)) 0 (readers ((c .before .before .before .before .before .before .before .before .before .before .before .before .before .before .before .before .before .before .before .before .before .before .before .args) .stream .now) (ranks ((c .before .before .before .before .before .before .before .before .before .before .before .before .before .before .before .before .before .before .before .before .before .before .before .args) .ranking)) ((c .before .before .before .before .before .before .before .before .before .before .before .before .before .before .before .before .before .before .before .before .before .before .before .args) .g)) (hold 0 0 none) (under ((c .before .before .before .before .before .before .before .before .before .before .before .before .before .before .before .before .before .before .before .before .before .before .before .args) .stream .now) ((c .before .before .before .before .before .before .before .before .before .before .before .before .before .before .before .before .before .before .before .before .before .before .before .args) .ranking) 0 ((c .before .before .before .before .before .before .before .before .before .before .before .before .before .before .before .before .before .before .before .before .before .before .before .args) .g) 0 (iter (on check (54 ∷ []) (word 54) (plus 1 ⨾ field′ ⨾ (on next (48 ∷ 45 ∷ []) (any ⨾ again′) (word 54)))))) ((c .before .before .before .before .before .before .before .before .before .before .before .e2) .given .0 .0) (48 ∷ 45 ∷ []) (any ⨾ again′) (word 54) (sym ((c .before .before .before .before .before .before .before .before .before .get-next) .ensures) ∙ (c .before .before .before .before .before .before .before .t) .given .1) m) pn in
+    let g4 = looks g3 (read ((c .before .before .before .before .before .before .before .before .before .before .before .before .before .before .before .before .before .before .before .before .before .before .before .args) .stream .now) (ranks ((c .before .before .before .before .before .before .before .before .before .before .before .before .before .before .before .before .before .before .before .before .before .before .before .args) .ranking)) 0 (readers ((c .before .before .before .before .before .before .before .before .before .before .before .before .before .before .before .before .before .before .before .before .before .before .before .args) .stream .now) (ranks ((c .before .before .before .before .before .before .before .before .before .before .before .before .before .before .before .before .before .before .before .before .before .before .before .args) .ranking)) ((c .before .before .before .before .before .before .before .before .before .before .before .before .before .before .before .before .before .before .before .before .before .before .before .args) .g)) (hold 0 0 none) (any ⨾ again′) (under ((c .before .before .before .before .before .before .before .before .before .before .before .before .before .before .before .before .before .before .before .before .before .before .before .args) .stream .now) ((c .before .before .before .before .before .before .before .before .before .before .before .before .before .before .before .before .before .before .before .before .before .before .before .args) .ranking) 0 ((c .before .before .before .before .before .before .before .before .before .before .before .before .before .before .before .before .before .before .before .before .before .before .before .args) .g) 0 (iter (on check (54 ∷ []) (word 54) (plus 1 ⨾ field′ ⨾ (on next (48 ∷ 45 ∷ []) (any ⨾ again′) (word 54))))))) ((c .before .before .before .before .before .before .before .t) .given .0 .1 .0) (next-in ((c .before .before .before .before .before .before .before .before .before .before .before .before .before .before .before .before .before .before .before .before .before .before .before .args) .stream .now) (ranks ((c .before .before .before .before .before .before .before .before .before .before .before .before .before .before .before .before .before .before .before .before .before .before .before .args) .ranking)) 0 (readers ((c .before .before .before .before .before .before .before .before .before .before .before .before .before .before .before .before .before .before .before .before .before .before .before .args) .stream .now) (ranks ((c .before .before .before .before .before .before .before .before .before .before .before .before .before .before .before .before .before .before .before .before .before .before .before .args) .ranking)) ((c .before .before .before .before .before .before .before .before .before .before .before .before .before .before .before .before .before .before .before .before .before .before .before .args) .g)) (hold 0 0 none) (under ((c .before .before .before .before .before .before .before .before .before .before .before .before .before .before .before .before .before .before .before .before .before .before .before .args) .stream .now) ((c .before .before .before .before .before .before .before .before .before .before .before .before .before .before .before .before .before .before .before .before .before .before .before .args) .ranking) 0 ((c .before .before .before .before .before .before .before .before .before .before .before .before .before .before .before .before .before .before .before .before .before .before .before .args) .g) 0 (iter (on check (54 ∷ []) (word 54) (plus 1 ⨾ field′ ⨾ (on next (48 ∷ 45 ∷ []) (any ⨾ again′) (word 54)))))) ((c .before .before .before .before .before .before .before .before .before .before .before .e2) .given .0 .0) (48 ∷ 45 ∷ []) (any ⨾ again′) (word 54) (sym ((c .before .before .before .before .before .before .before .before .before .get-next) .ensures) ∙ (c .before .before .before .before .before .before .before .t) .given .1) m) pn pn′ in
     let f5 = any-fine ((c .before .before .before .before .before .before .before .before .before .before .before .before .before .before .before .before .before .before .before .before .before .before .before .args) .stream .now) (ranks ((c .before .before .before .before .before .before .before .before .before .before .before .before .before .before .before .before .before .before .before .before .before .before .before .args) .ranking)) 0 (readers ((c .before .before .before .before .before .before .before .before .before .before .before .before .before .before .before .before .before .before .before .before .before .before .before .args) .stream .now) (ranks ((c .before .before .before .before .before .before .before .before .before .before .before .before .before .before .before .before .before .before .before .before .before .before .before .args) .ranking)) ((c .before .before .before .before .before .before .before .before .before .before .before .before .before .before .before .before .before .before .before .before .before .before .before .args) .g)) (hold 0 0 none) (under ((c .before .before .before .before .before .before .before .before .before .before .before .before .before .before .before .before .before .before .before .before .before .before .before .args) .stream .now) ((c .before .before .before .before .before .before .before .before .before .before .before .before .before .before .before .before .before .before .before .before .before .before .before .args) .ranking) 0 ((c .before .before .before .before .before .before .before .before .before .before .before .before .before .before .before .before .before .before .before .before .before .before .before .args) .g) 0 (iter (on check (54 ∷ []) (word 54) (plus 1 ⨾ field′ ⨾ (on next (48 ∷ 45 ∷ []) (any ⨾ again′) (word 54)))))) ((c .before .before .before .before .before .before .before .t) .given .0 .1 .0) ((c .before .before .before .before .before .before .before .before .before .before .before .before .before .before .before .field) .last .1 .0) ((c .before .before .before .before .before .before .before .before .before .before .before .e2) .given .0 .1 .0) 0 (((c .before .before .before .before .before .before .before .before .before .before .before .before .before .before .before .before .before .before .before .before .loop) .inv) .0) (omega (arith, g4 .room)) ((sym ((c .before .before .before .take-next) .ensures)) ∙ (c .before .h) .given .1) in
     (((c .before .before .before .before .before .before .before .before .before .before .before .before .before .before .before .before .before .before .before .before .loop) .inv) .0, f5 .at, f5 .room, omega (arith, ((c .before .before .before .before .before .before .before .before .before .before .before .before .before .before .before .before .before .before .before .before .loop) .inv) .3, pl, pn, f2 .later, f5 .later), revalue-going {w = ((c .before .before .before .before .before .before .before .before .before .before .before .before .before .before .before .before .before .before .before .before .loop) .n) + 1} (omega arith) (goes g4 (under ((c .before .before .before .before .before .before .before .before .before .before .before .before .before .before .before .before .before .before .before .before .before .before .before .args) .stream .now) ((c .before .before .before .before .before .before .before .before .before .before .before .before .before .before .before .before .before .before .before .before .before .before .before .args) .ranking) 0 ((c .before .before .before .before .before .before .before .before .before .before .before .before .before .before .before .before .before .before .before .before .before .before .before .args) .g) 0 (iter (on check (54 ∷ []) (word 54) (plus 1 ⨾ field′ ⨾ (on next (48 ∷ 45 ∷ []) (any ⨾ again′) (word 54)))))) refl f5 (omega arith)))

@@ -27,7 +27,7 @@ use Rattle.grammar.specs.Term.{on, refuse, node}
 use Rattle.grammar.specs.Productions.{named}
 use Rattle.parser.specs.Contract.{says, again}
 use Rattle.parser.specs.Parts as P
-use Rattle.parser.proofs.Steps.{took-kind, took-name, next-in, next-out, get-place}
+use Rattle.parser.proofs.Steps.{took-kind, took-name, next-in, next-out, get-place, get-note}
 use Rattle.parser.proofs.Among.{among, nor}
 use Rattle.parser.proofs.Kit.{kept, moved, stop, past, both}
 use Rattle.parser.proofs.Tokens.{paid, name-fail, word-fail, name-fine, word-fine}
@@ -357,7 +357,7 @@ fors-returns-4 t c =
     let e1 = by-kind ((c .before .before .before .before .before .before .before .before .before .before .before .before .before .before .before .before .before .before .before .args) .stream .now) (ranks ((c .before .before .before .before .before .before .before .before .before .before .before .before .before .before .before .before .before .before .before .args) .ranking)) 0 (readers ((c .before .before .before .before .before .before .before .before .before .before .before .before .before .before .before .before .before .before .before .args) .stream .now) (ranks ((c .before .before .before .before .before .before .before .before .before .before .before .before .before .before .before .before .before .before .before .args) .ranking)) ((c .before .before .before .before .before .before .before .before .before .before .before .before .before .before .before .before .before .before .before .args) .g)) (hold (((c .before .before .before .before .before .before .before .before .before .before .before .before .before .before .before .before .before .before .before .args) .c) .place) (((c .before .before .before .before .before .before .before .before .before .before .n) .given .0 .1 .0) .place) (f3 .trees)) (loop ((c .before .before .before .before .before .before .before .before .before .before .before .before .before .before .before .before .before .before .before .args) .stream .now) (length ((c .before .before .before .before .before .before .before .before .before .before .before .before .before .before .before .before .before .before .before .args) .stream .now)) (read ((c .before .before .before .before .before .before .before .before .before .before .before .before .before .before .before .before .before .before .before .args) .stream .now) (ranks ((c .before .before .before .before .before .before .before .before .before .before .before .before .before .before .before .before .before .before .before .args) .ranking)) 0 (readers ((c .before .before .before .before .before .before .before .before .before .before .before .before .before .before .before .before .before .before .before .args) .stream .now) (ranks ((c .before .before .before .before .before .before .before .before .before .before .before .before .before .before .before .before .before .before .before .args) .ranking)) ((c .before .before .before .before .before .before .before .before .before .before .before .before .before .before .before .before .before .before .before .args) .g)) (hold (((c .before .before .before .before .before .before .before .before .before .before .before .before .before .before .before .before .before .before .before .args) .c) .place) (((c .before .before .before .before .before .before .before .before .before .before .n) .given .0 .1 .0) .place) (f3 .trees)) (37 ⇒ (node 6 back opening P.numeric) ∣ (on next (48 ∷ 10 ∷ []) (node 7 back opening P.generic) (refuse 64))))) ((c .before .before .before .before .before .before .before .before .before .before .n) .given .0 .1 .0) (37, (node 6 back opening P.numeric)) [] (on next (48 ∷ 10 ∷ []) (node 7 back opening P.generic) (refuse 64)) (sym ((c .before .before .before .before .before .before .before .before .get-next) .ensures) ∙ (c .before .before .before .before .before .before .t) .given .1) ((c .before .before .before .before .match4) .keys1) in
     let e2 = ap (wrap ((c .before .before .before .before .before .before .before .before .before .before .before .before .before .before .before .before .before .before .before .args) .stream .now) 6 opening (((c .before .before .before .before .before .before .before .before .before .before .before .before .before .before .before .before .before .before .before .args) .c) .place)) (settled ((c .before .before .before .before .before .before .before .before .before .before .before .before .before .before .before .before .before .before .before .args) .stream .now) ((c .before .before .before .before .before .before .before .before .before .before .before .before .before .before .before .before .before .before .before .args) .ranking) 0 ((c .before .before .before .before .before .before .before .before .before .before .before .before .before .before .before .before .before .before .before .args) .g) (hold (((c .before .before .before .before .before .before .before .before .before .before .before .before .before .before .before .before .before .before .before .args) .c) .place) (((c .before .before .before .before .before .before .before .before .before .before .n) .given .0 .1 .0) .place) (f3 .trees)) (loop ((c .before .before .before .before .before .before .before .before .before .before .before .before .before .before .before .before .before .before .before .args) .stream .now) (length ((c .before .before .before .before .before .before .before .before .before .before .before .before .before .before .before .before .before .before .before .args) .stream .now)) (read ((c .before .before .before .before .before .before .before .before .before .before .before .before .before .before .before .before .before .before .before .args) .stream .now) (ranks ((c .before .before .before .before .before .before .before .before .before .before .before .before .before .before .before .before .before .before .before .args) .ranking)) 0 (readers ((c .before .before .before .before .before .before .before .before .before .before .before .before .before .before .before .before .before .before .before .args) .stream .now) (ranks ((c .before .before .before .before .before .before .before .before .before .before .before .before .before .before .before .before .before .before .before .args) .ranking)) ((c .before .before .before .before .before .before .before .before .before .before .before .before .before .before .before .before .before .before .before .args) .g)) (hold (((c .before .before .before .before .before .before .before .before .before .before .before .before .before .before .before .before .before .before .before .args) .c) .place) (((c .before .before .before .before .before .before .before .before .before .before .n) .given .0 .1 .0) .place) (f3 .trees)) (37 ⇒ (node 6 back opening P.numeric) ∣ (on next (48 ∷ 10 ∷ []) (node 7 back opening P.generic) (refuse 64))))) P.numeric refl ((c .before .before .before .before .before .before .t) .given .0 .1 .0)) in
     let e3 = ap (λ (z : ℕ). wrap ((c .before .before .before .before .before .before .before .before .before .before .before .before .before .before .before .before .before .before .before .args) .stream .now) 6 opening z (says ((c .before .before .before .before .before .before .before .before .before .before .before .before .before .before .before .before .before .before .before .args) .stream .now) ((c .before .before .before .before .before .before .before .before .before .before .before .before .before .before .before .before .before .before .before .args) .ranking) ((c .before .before .before .before .before .before .before .before .before .before .before .before .before .before .before .before .before .before .before .args) .g) P.numeric ((c .before .before .before .before .before .before .t) .given .0 .1 .0))) p in
-    moved ((c .before .before .before .before .before .before .before .before .before .before .before .before .before .before .before .before .before .before .before .args) .stream .now) ((c .before .before .before .before .before .before .before .before .before .before .before .before .before .before .before .before .before .before .before .args) .used) 0 ((c .before .before .before .before .before .before .before .before .before .before .before .before .before .before .before .before .before .before .before .args) .nodes .now) ((c .before .before .numeric) .last .1 .0) ((c .before .before .numeric) .result) (l ∙ e1 ∙ e2 ∙ e3) (omega (arith, (took-kind ((c .before .before .before .before .before .before .before .before .before .before .before .before .before .before .before .before .before .before .before .args) .stream .now) ((c .before .before .before .before .before .before .before .before .before .before .before .before .before .before .before .before .before .before .before .args) .c) 6 ((sym ((c .before .before .before .before .before .before .before .before .before .before .before .before .before .before .before .before .expect-next) .ensures)) ∙ (c .before .before .before .before .before .before .before .before .before .before .before .before .before .before .d) .given .1)) .place, (took-name ((c .before .before .before .before .before .before .before .before .before .before .before .before .before .before .before .before .before .before .before .args) .stream .now) ((c .before .before .before .before .before .before .before .before .before .before .before .before .before .before .d) .given .0 .1 .0) ((sym ((c .before .before .before .before .before .before .before .before .before .before .before .before .expect-name) .ensures)) ∙ (c .before .before .before .before .before .before .before .before .before .before .n) .given .1)) .place, (get-place ((c .before .before .before .before .before .before .before .before .before .before .before .before .before .before .before .before .before .before .before .args) .stream .now) ((c .before .before .before .before .before .before .before .before .before .before .n) .given .0 .1 .0) (sym ((c .before .before .before .before .before .before .before .before .get-next) .ensures) ∙ (c .before .before .before .before .before .before .t) .given .1)))) ((c .before .before .numeric) .ensures)
+    moved ((c .before .before .before .before .before .before .before .before .before .before .before .before .before .before .before .before .before .before .before .args) .stream .now) ((get-note ((c .before .before .before .before .before .before .before .before .before .before .before .before .before .before .before .before .before .before .before .args) .stream .now) ((c .before .before .before .before .before .before .before .before .before .before .n) .given .0 .1 .0) (sym ((c .before .before .before .before .before .before .before .before .get-next) .ensures) ∙ (c .before .before .before .before .before .before .t) .given .1)) ∙ (took-name ((c .before .before .before .before .before .before .before .before .before .before .before .before .before .before .before .before .before .before .before .args) .stream .now) ((c .before .before .before .before .before .before .before .before .before .before .before .before .before .before .d) .given .0 .1 .0) ((sym ((c .before .before .before .before .before .before .before .before .before .before .before .before .expect-name) .ensures)) ∙ (c .before .before .before .before .before .before .before .before .before .before .n) .given .1)) .note ∙ (took-kind ((c .before .before .before .before .before .before .before .before .before .before .before .before .before .before .before .before .before .before .before .args) .stream .now) ((c .before .before .before .before .before .before .before .before .before .before .before .before .before .before .before .before .before .before .before .args) .c) 6 ((sym ((c .before .before .before .before .before .before .before .before .before .before .before .before .before .before .before .before .expect-next) .ensures)) ∙ (c .before .before .before .before .before .before .before .before .before .before .before .before .before .before .d) .given .1)) .note) ((c .before .before .before .before .before .before .before .before .before .before .before .before .before .before .before .before .before .before .before .args) .used) 0 ((c .before .before .before .before .before .before .before .before .before .before .before .before .before .before .before .before .before .before .before .args) .nodes .now) ((c .before .before .numeric) .last .1 .0) ((c .before .before .numeric) .result) (l ∙ e1 ∙ e2 ∙ e3) (omega (arith, (took-kind ((c .before .before .before .before .before .before .before .before .before .before .before .before .before .before .before .before .before .before .before .args) .stream .now) ((c .before .before .before .before .before .before .before .before .before .before .before .before .before .before .before .before .before .before .before .args) .c) 6 ((sym ((c .before .before .before .before .before .before .before .before .before .before .before .before .before .before .before .before .expect-next) .ensures)) ∙ (c .before .before .before .before .before .before .before .before .before .before .before .before .before .before .d) .given .1)) .place, (took-name ((c .before .before .before .before .before .before .before .before .before .before .before .before .before .before .before .before .before .before .before .args) .stream .now) ((c .before .before .before .before .before .before .before .before .before .before .before .before .before .before .d) .given .0 .1 .0) ((sym ((c .before .before .before .before .before .before .before .before .before .before .before .before .expect-name) .ensures)) ∙ (c .before .before .before .before .before .before .before .before .before .before .n) .given .1)) .place, (get-place ((c .before .before .before .before .before .before .before .before .before .before .before .before .before .before .before .before .before .before .before .args) .stream .now) ((c .before .before .before .before .before .before .before .before .before .before .n) .given .0 .1 .0) (sym ((c .before .before .before .before .before .before .before .before .get-next) .ensures) ∙ (c .before .before .before .before .before .before .t) .given .1)))) ((c .before .before .numeric) .ensures)
 
 pub fors-same-length-2 : (t : ℕ) → fors-lts.Need-same-length-2 (
   expect-next-reads.Asked,
@@ -401,7 +401,7 @@ fors-returns-5 t c =
     let e2 = next-in ((c .before .before .before .before .before .before .before .before .before .before .before .before .before .before .before .before .before .before .before .args) .stream .now) (ranks ((c .before .before .before .before .before .before .before .before .before .before .before .before .before .before .before .before .before .before .before .args) .ranking)) 0 (readers ((c .before .before .before .before .before .before .before .before .before .before .before .before .before .before .before .before .before .before .before .args) .stream .now) (ranks ((c .before .before .before .before .before .before .before .before .before .before .before .before .before .before .before .before .before .before .before .args) .ranking)) ((c .before .before .before .before .before .before .before .before .before .before .before .before .before .before .before .before .before .before .before .args) .g)) (hold (((c .before .before .before .before .before .before .before .before .before .before .before .before .before .before .before .before .before .before .before .args) .c) .place) (((c .before .before .before .before .before .before .before .before .before .before .n) .given .0 .1 .0) .place) (f3 .trees)) (loop ((c .before .before .before .before .before .before .before .before .before .before .before .before .before .before .before .before .before .before .before .args) .stream .now) (length ((c .before .before .before .before .before .before .before .before .before .before .before .before .before .before .before .before .before .before .before .args) .stream .now)) (read ((c .before .before .before .before .before .before .before .before .before .before .before .before .before .before .before .before .before .before .before .args) .stream .now) (ranks ((c .before .before .before .before .before .before .before .before .before .before .before .before .before .before .before .before .before .before .before .args) .ranking)) 0 (readers ((c .before .before .before .before .before .before .before .before .before .before .before .before .before .before .before .before .before .before .before .args) .stream .now) (ranks ((c .before .before .before .before .before .before .before .before .before .before .before .before .before .before .before .before .before .before .before .args) .ranking)) ((c .before .before .before .before .before .before .before .before .before .before .before .before .before .before .before .before .before .before .before .args) .g)) (hold (((c .before .before .before .before .before .before .before .before .before .before .before .before .before .before .before .before .before .before .before .args) .c) .place) (((c .before .before .before .before .before .before .before .before .before .before .n) .given .0 .1 .0) .place) (f3 .trees)) (37 ⇒ (node 6 back opening P.numeric) ∣ (on next (48 ∷ 10 ∷ []) (node 7 back opening P.generic) (refuse 64))))) ((c .before .before .before .before .before .before .t) .given .0 .1 .0) (48 ∷ 10 ∷ []) (node 7 back opening P.generic) (refuse 64) (got-again ((c .before .before .before .before .before .before .before .before .before .before .before .before .before .before .before .before .before .before .before .args) .stream .now) ((c .before .before .before .before .before .before .before .before .before .before .n) .given .0 .1 .0) (sym ((c .before .before .before .before .before .before .before .before .get-next) .ensures) ∙ (c .before .before .before .before .before .before .t) .given .1)) (among (48 ∷ 10 ∷ []) kk) in
     let e3 = ap (wrap ((c .before .before .before .before .before .before .before .before .before .before .before .before .before .before .before .before .before .before .before .args) .stream .now) 7 opening (((c .before .before .before .before .before .before .before .before .before .before .before .before .before .before .before .before .before .before .before .args) .c) .place)) (settled ((c .before .before .before .before .before .before .before .before .before .before .before .before .before .before .before .before .before .before .before .args) .stream .now) ((c .before .before .before .before .before .before .before .before .before .before .before .before .before .before .before .before .before .before .before .args) .ranking) 0 ((c .before .before .before .before .before .before .before .before .before .before .before .before .before .before .before .before .before .before .before .args) .g) (hold (((c .before .before .before .before .before .before .before .before .before .before .before .before .before .before .before .before .before .before .before .args) .c) .place) (((c .before .before .before .before .before .before .before .before .before .before .n) .given .0 .1 .0) .place) (f3 .trees)) (loop ((c .before .before .before .before .before .before .before .before .before .before .before .before .before .before .before .before .before .before .before .args) .stream .now) (length ((c .before .before .before .before .before .before .before .before .before .before .before .before .before .before .before .before .before .before .before .args) .stream .now)) (read ((c .before .before .before .before .before .before .before .before .before .before .before .before .before .before .before .before .before .before .before .args) .stream .now) (ranks ((c .before .before .before .before .before .before .before .before .before .before .before .before .before .before .before .before .before .before .before .args) .ranking)) 0 (readers ((c .before .before .before .before .before .before .before .before .before .before .before .before .before .before .before .before .before .before .before .args) .stream .now) (ranks ((c .before .before .before .before .before .before .before .before .before .before .before .before .before .before .before .before .before .before .before .args) .ranking)) ((c .before .before .before .before .before .before .before .before .before .before .before .before .before .before .before .before .before .before .before .args) .g)) (hold (((c .before .before .before .before .before .before .before .before .before .before .before .before .before .before .before .before .before .before .before .args) .c) .place) (((c .before .before .before .before .before .before .before .before .before .before .n) .given .0 .1 .0) .place) (f3 .trees)) (37 ⇒ (node 6 back opening P.numeric) ∣ (on next (48 ∷ 10 ∷ []) (node 7 back opening P.generic) (refuse 64))))) P.generic refl ((c .before .before .before .before .before .before .t) .given .0 .1 .0)) in
     let e = l ∙ e1 ∙ e2 ∙ e3 ∙ ap (λ (z : ℕ). wrap ((c .before .before .before .before .before .before .before .before .before .before .before .before .before .before .before .before .before .before .before .args) .stream .now) 7 opening z (says ((c .before .before .before .before .before .before .before .before .before .before .before .before .before .before .before .before .before .before .before .args) .stream .now) ((c .before .before .before .before .before .before .before .before .before .before .before .before .before .before .before .before .before .before .before .args) .ranking) ((c .before .before .before .before .before .before .before .before .before .before .before .before .before .before .before .before .before .before .before .args) .g) P.generic ((c .before .before .before .before .before .before .t) .given .0 .1 .0))) p in
-    moved ((c .before .before .before .before .before .before .before .before .before .before .before .before .before .before .before .before .before .before .before .args) .stream .now) ((c .before .before .before .before .before .before .before .before .before .before .before .before .before .before .before .before .before .before .before .args) .used) 0 ((c .before .before .before .before .before .before .before .before .before .before .before .before .before .before .before .before .before .before .before .args) .nodes .now) ((c .before .before .generic) .last .1 .0) ((c .before .before .generic) .result) e (omega (arith, (took-kind ((c .before .before .before .before .before .before .before .before .before .before .before .before .before .before .before .before .before .before .before .args) .stream .now) ((c .before .before .before .before .before .before .before .before .before .before .before .before .before .before .before .before .before .before .before .args) .c) 6 ((sym ((c .before .before .before .before .before .before .before .before .before .before .before .before .before .before .before .before .expect-next) .ensures)) ∙ (c .before .before .before .before .before .before .before .before .before .before .before .before .before .before .d) .given .1)) .place, (took-name ((c .before .before .before .before .before .before .before .before .before .before .before .before .before .before .before .before .before .before .before .args) .stream .now) ((c .before .before .before .before .before .before .before .before .before .before .before .before .before .before .d) .given .0 .1 .0) ((sym ((c .before .before .before .before .before .before .before .before .before .before .before .before .expect-name) .ensures)) ∙ (c .before .before .before .before .before .before .before .before .before .before .n) .given .1)) .place, (get-place ((c .before .before .before .before .before .before .before .before .before .before .before .before .before .before .before .before .before .before .before .args) .stream .now) ((c .before .before .before .before .before .before .before .before .before .before .n) .given .0 .1 .0) (sym ((c .before .before .before .before .before .before .before .before .get-next) .ensures) ∙ (c .before .before .before .before .before .before .t) .given .1)))) ((c .before .before .generic) .ensures)
+    moved ((c .before .before .before .before .before .before .before .before .before .before .before .before .before .before .before .before .before .before .before .args) .stream .now) ((get-note ((c .before .before .before .before .before .before .before .before .before .before .before .before .before .before .before .before .before .before .before .args) .stream .now) ((c .before .before .before .before .before .before .before .before .before .before .n) .given .0 .1 .0) (sym ((c .before .before .before .before .before .before .before .before .get-next) .ensures) ∙ (c .before .before .before .before .before .before .t) .given .1)) ∙ (took-name ((c .before .before .before .before .before .before .before .before .before .before .before .before .before .before .before .before .before .before .before .args) .stream .now) ((c .before .before .before .before .before .before .before .before .before .before .before .before .before .before .d) .given .0 .1 .0) ((sym ((c .before .before .before .before .before .before .before .before .before .before .before .before .expect-name) .ensures)) ∙ (c .before .before .before .before .before .before .before .before .before .before .n) .given .1)) .note ∙ (took-kind ((c .before .before .before .before .before .before .before .before .before .before .before .before .before .before .before .before .before .before .before .args) .stream .now) ((c .before .before .before .before .before .before .before .before .before .before .before .before .before .before .before .before .before .before .before .args) .c) 6 ((sym ((c .before .before .before .before .before .before .before .before .before .before .before .before .before .before .before .before .expect-next) .ensures)) ∙ (c .before .before .before .before .before .before .before .before .before .before .before .before .before .before .d) .given .1)) .note) ((c .before .before .before .before .before .before .before .before .before .before .before .before .before .before .before .before .before .before .before .args) .used) 0 ((c .before .before .before .before .before .before .before .before .before .before .before .before .before .before .before .before .before .before .before .args) .nodes .now) ((c .before .before .generic) .last .1 .0) ((c .before .before .generic) .result) e (omega (arith, (took-kind ((c .before .before .before .before .before .before .before .before .before .before .before .before .before .before .before .before .before .before .before .args) .stream .now) ((c .before .before .before .before .before .before .before .before .before .before .before .before .before .before .before .before .before .before .before .args) .c) 6 ((sym ((c .before .before .before .before .before .before .before .before .before .before .before .before .before .before .before .before .expect-next) .ensures)) ∙ (c .before .before .before .before .before .before .before .before .before .before .before .before .before .before .d) .given .1)) .place, (took-name ((c .before .before .before .before .before .before .before .before .before .before .before .before .before .before .before .before .before .before .before .args) .stream .now) ((c .before .before .before .before .before .before .before .before .before .before .before .before .before .before .d) .given .0 .1 .0) ((sym ((c .before .before .before .before .before .before .before .before .before .before .before .before .expect-name) .ensures)) ∙ (c .before .before .before .before .before .before .before .before .before .before .n) .given .1)) .place, (get-place ((c .before .before .before .before .before .before .before .before .before .before .before .before .before .before .before .before .before .before .before .args) .stream .now) ((c .before .before .before .before .before .before .before .before .before .before .n) .given .0 .1 .0) (sym ((c .before .before .before .before .before .before .before .before .get-next) .ensures) ∙ (c .before .before .before .before .before .before .t) .given .1)))) ((c .before .before .generic) .ensures)
 
 pub fors-same-length-3 : (t : ℕ) → fors-lts.Need-same-length-3 (
   expect-next-reads.Asked,
@@ -445,7 +445,7 @@ fors-returns-6 t c =
     let e2 = next-in ((c .before .before .before .before .before .before .before .before .before .before .before .before .before .before .before .before .before .before .before .args) .stream .now) (ranks ((c .before .before .before .before .before .before .before .before .before .before .before .before .before .before .before .before .before .before .before .args) .ranking)) 0 (readers ((c .before .before .before .before .before .before .before .before .before .before .before .before .before .before .before .before .before .before .before .args) .stream .now) (ranks ((c .before .before .before .before .before .before .before .before .before .before .before .before .before .before .before .before .before .before .before .args) .ranking)) ((c .before .before .before .before .before .before .before .before .before .before .before .before .before .before .before .before .before .before .before .args) .g)) (hold (((c .before .before .before .before .before .before .before .before .before .before .before .before .before .before .before .before .before .before .before .args) .c) .place) (((c .before .before .before .before .before .before .before .before .before .before .n) .given .0 .1 .0) .place) (f3 .trees)) (loop ((c .before .before .before .before .before .before .before .before .before .before .before .before .before .before .before .before .before .before .before .args) .stream .now) (length ((c .before .before .before .before .before .before .before .before .before .before .before .before .before .before .before .before .before .before .before .args) .stream .now)) (read ((c .before .before .before .before .before .before .before .before .before .before .before .before .before .before .before .before .before .before .before .args) .stream .now) (ranks ((c .before .before .before .before .before .before .before .before .before .before .before .before .before .before .before .before .before .before .before .args) .ranking)) 0 (readers ((c .before .before .before .before .before .before .before .before .before .before .before .before .before .before .before .before .before .before .before .args) .stream .now) (ranks ((c .before .before .before .before .before .before .before .before .before .before .before .before .before .before .before .before .before .before .before .args) .ranking)) ((c .before .before .before .before .before .before .before .before .before .before .before .before .before .before .before .before .before .before .before .args) .g)) (hold (((c .before .before .before .before .before .before .before .before .before .before .before .before .before .before .before .before .before .before .before .args) .c) .place) (((c .before .before .before .before .before .before .before .before .before .before .n) .given .0 .1 .0) .place) (f3 .trees)) (37 ⇒ (node 6 back opening P.numeric) ∣ (on next (48 ∷ 10 ∷ []) (node 7 back opening P.generic) (refuse 64))))) ((c .before .before .before .before .before .before .t) .given .0 .1 .0) (48 ∷ 10 ∷ []) (node 7 back opening P.generic) (refuse 64) (got-again ((c .before .before .before .before .before .before .before .before .before .before .before .before .before .before .before .before .before .before .before .args) .stream .now) ((c .before .before .before .before .before .before .before .before .before .before .n) .given .0 .1 .0) (sym ((c .before .before .before .before .before .before .before .before .get-next) .ensures) ∙ (c .before .before .before .before .before .before .t) .given .1)) (among (48 ∷ 10 ∷ []) kk) in
     let e3 = ap (wrap ((c .before .before .before .before .before .before .before .before .before .before .before .before .before .before .before .before .before .before .before .args) .stream .now) 7 opening (((c .before .before .before .before .before .before .before .before .before .before .before .before .before .before .before .before .before .before .before .args) .c) .place)) (settled ((c .before .before .before .before .before .before .before .before .before .before .before .before .before .before .before .before .before .before .before .args) .stream .now) ((c .before .before .before .before .before .before .before .before .before .before .before .before .before .before .before .before .before .before .before .args) .ranking) 0 ((c .before .before .before .before .before .before .before .before .before .before .before .before .before .before .before .before .before .before .before .args) .g) (hold (((c .before .before .before .before .before .before .before .before .before .before .before .before .before .before .before .before .before .before .before .args) .c) .place) (((c .before .before .before .before .before .before .before .before .before .before .n) .given .0 .1 .0) .place) (f3 .trees)) (loop ((c .before .before .before .before .before .before .before .before .before .before .before .before .before .before .before .before .before .before .before .args) .stream .now) (length ((c .before .before .before .before .before .before .before .before .before .before .before .before .before .before .before .before .before .before .before .args) .stream .now)) (read ((c .before .before .before .before .before .before .before .before .before .before .before .before .before .before .before .before .before .before .before .args) .stream .now) (ranks ((c .before .before .before .before .before .before .before .before .before .before .before .before .before .before .before .before .before .before .before .args) .ranking)) 0 (readers ((c .before .before .before .before .before .before .before .before .before .before .before .before .before .before .before .before .before .before .before .args) .stream .now) (ranks ((c .before .before .before .before .before .before .before .before .before .before .before .before .before .before .before .before .before .before .before .args) .ranking)) ((c .before .before .before .before .before .before .before .before .before .before .before .before .before .before .before .before .before .before .before .args) .g)) (hold (((c .before .before .before .before .before .before .before .before .before .before .before .before .before .before .before .before .before .before .before .args) .c) .place) (((c .before .before .before .before .before .before .before .before .before .before .n) .given .0 .1 .0) .place) (f3 .trees)) (37 ⇒ (node 6 back opening P.numeric) ∣ (on next (48 ∷ 10 ∷ []) (node 7 back opening P.generic) (refuse 64))))) P.generic refl ((c .before .before .before .before .before .before .t) .given .0 .1 .0)) in
     let e = l ∙ e1 ∙ e2 ∙ e3 ∙ ap (λ (z : ℕ). wrap ((c .before .before .before .before .before .before .before .before .before .before .before .before .before .before .before .before .before .before .before .args) .stream .now) 7 opening z (says ((c .before .before .before .before .before .before .before .before .before .before .before .before .before .before .before .before .before .before .before .args) .stream .now) ((c .before .before .before .before .before .before .before .before .before .before .before .before .before .before .before .before .before .before .before .args) .ranking) ((c .before .before .before .before .before .before .before .before .before .before .before .before .before .before .before .before .before .before .before .args) .g) P.generic ((c .before .before .before .before .before .before .t) .given .0 .1 .0))) p in
-    moved ((c .before .before .before .before .before .before .before .before .before .before .before .before .before .before .before .before .before .before .before .args) .stream .now) ((c .before .before .before .before .before .before .before .before .before .before .before .before .before .before .before .before .before .before .before .args) .used) 0 ((c .before .before .before .before .before .before .before .before .before .before .before .before .before .before .before .before .before .before .before .args) .nodes .now) ((c .before .before .generic2) .last .1 .0) ((c .before .before .generic2) .result) e (omega (arith, (took-kind ((c .before .before .before .before .before .before .before .before .before .before .before .before .before .before .before .before .before .before .before .args) .stream .now) ((c .before .before .before .before .before .before .before .before .before .before .before .before .before .before .before .before .before .before .before .args) .c) 6 ((sym ((c .before .before .before .before .before .before .before .before .before .before .before .before .before .before .before .before .expect-next) .ensures)) ∙ (c .before .before .before .before .before .before .before .before .before .before .before .before .before .before .d) .given .1)) .place, (took-name ((c .before .before .before .before .before .before .before .before .before .before .before .before .before .before .before .before .before .before .before .args) .stream .now) ((c .before .before .before .before .before .before .before .before .before .before .before .before .before .before .d) .given .0 .1 .0) ((sym ((c .before .before .before .before .before .before .before .before .before .before .before .before .expect-name) .ensures)) ∙ (c .before .before .before .before .before .before .before .before .before .before .n) .given .1)) .place, (get-place ((c .before .before .before .before .before .before .before .before .before .before .before .before .before .before .before .before .before .before .before .args) .stream .now) ((c .before .before .before .before .before .before .before .before .before .before .n) .given .0 .1 .0) (sym ((c .before .before .before .before .before .before .before .before .get-next) .ensures) ∙ (c .before .before .before .before .before .before .t) .given .1)))) ((c .before .before .generic2) .ensures)
+    moved ((c .before .before .before .before .before .before .before .before .before .before .before .before .before .before .before .before .before .before .before .args) .stream .now) ((get-note ((c .before .before .before .before .before .before .before .before .before .before .before .before .before .before .before .before .before .before .before .args) .stream .now) ((c .before .before .before .before .before .before .before .before .before .before .n) .given .0 .1 .0) (sym ((c .before .before .before .before .before .before .before .before .get-next) .ensures) ∙ (c .before .before .before .before .before .before .t) .given .1)) ∙ (took-name ((c .before .before .before .before .before .before .before .before .before .before .before .before .before .before .before .before .before .before .before .args) .stream .now) ((c .before .before .before .before .before .before .before .before .before .before .before .before .before .before .d) .given .0 .1 .0) ((sym ((c .before .before .before .before .before .before .before .before .before .before .before .before .expect-name) .ensures)) ∙ (c .before .before .before .before .before .before .before .before .before .before .n) .given .1)) .note ∙ (took-kind ((c .before .before .before .before .before .before .before .before .before .before .before .before .before .before .before .before .before .before .before .args) .stream .now) ((c .before .before .before .before .before .before .before .before .before .before .before .before .before .before .before .before .before .before .before .args) .c) 6 ((sym ((c .before .before .before .before .before .before .before .before .before .before .before .before .before .before .before .before .expect-next) .ensures)) ∙ (c .before .before .before .before .before .before .before .before .before .before .before .before .before .before .d) .given .1)) .note) ((c .before .before .before .before .before .before .before .before .before .before .before .before .before .before .before .before .before .before .before .args) .used) 0 ((c .before .before .before .before .before .before .before .before .before .before .before .before .before .before .before .before .before .before .before .args) .nodes .now) ((c .before .before .generic2) .last .1 .0) ((c .before .before .generic2) .result) e (omega (arith, (took-kind ((c .before .before .before .before .before .before .before .before .before .before .before .before .before .before .before .before .before .before .before .args) .stream .now) ((c .before .before .before .before .before .before .before .before .before .before .before .before .before .before .before .before .before .before .before .args) .c) 6 ((sym ((c .before .before .before .before .before .before .before .before .before .before .before .before .before .before .before .before .expect-next) .ensures)) ∙ (c .before .before .before .before .before .before .before .before .before .before .before .before .before .before .d) .given .1)) .place, (took-name ((c .before .before .before .before .before .before .before .before .before .before .before .before .before .before .before .before .before .before .before .args) .stream .now) ((c .before .before .before .before .before .before .before .before .before .before .before .before .before .before .d) .given .0 .1 .0) ((sym ((c .before .before .before .before .before .before .before .before .before .before .before .before .expect-name) .ensures)) ∙ (c .before .before .before .before .before .before .before .before .before .before .n) .given .1)) .place, (get-place ((c .before .before .before .before .before .before .before .before .before .before .before .before .before .before .before .before .before .before .before .args) .stream .now) ((c .before .before .before .before .before .before .before .before .before .before .n) .given .0 .1 .0) (sym ((c .before .before .before .before .before .before .before .before .get-next) .ensures) ∙ (c .before .before .before .before .before .before .t) .given .1)))) ((c .before .before .generic2) .ensures)
 
 pub fors-returns-7 : (t : ℕ) → fors-lts.Need-returns-7 (
   expect-next-reads.Asked,

@@ -91,4 +91,4 @@ pub item-returns-2 : (t : ℕ) → item-lts.Need-returns-2 (
 unfolding read
 item-returns-2 t c =
     let f1 = rw ((c .before .before .before .before .before .d) .given .1) at ((c .before .before .before .before .before .before .before .before .before .sub) .ensures) in
-    rw ((c .before .before .close) .ensures .0) (over 36 unlined (((c .before .before .before .before .before .before .before .before .before .before .before .before .before .args) .c) .place) 0 f1 ((c .before .before .close) .ensures .1) refl)
+    rw ((c .before .before .close) .ensures .0) (over 36 unlined (((c .before .before .before .before .before .before .before .before .before .before .before .before .before .args) .c) .place) 0 (refl, refl, refl) f1 ((c .before .before .close) .ensures .1) refl)

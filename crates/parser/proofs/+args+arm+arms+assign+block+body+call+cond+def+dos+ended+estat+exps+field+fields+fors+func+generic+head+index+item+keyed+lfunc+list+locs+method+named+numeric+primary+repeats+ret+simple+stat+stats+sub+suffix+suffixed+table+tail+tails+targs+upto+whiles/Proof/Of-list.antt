@@ -20,9 +20,9 @@ use Rattle.grammar.specs.Levels.{readers}
 use Rattle.grammar.specs.Term.{empty}
 use Rattle.grammar.specs.Productions.{word}
 use Rattle.parser.specs.Contract.{again}
-use Rattle.parser.proofs.Steps.{next-fail, next-in, next-out, get-place}
+use Rattle.parser.proofs.Steps.{next-fail, next-in, next-out, get-place, get-note}
 use Rattle.parser.proofs.Among.{one, other}
-use Rattle.parser.proofs.Kit.{kept, ready-at, ready-seen, alter, looked, follow, stop, past, onward-sum}
+use Rattle.parser.proofs.Kit.{kept, ready-at, ready-seen, alter, renoted, looked, follow, stop, past, onward-sum}
 use Rattle.parser.proofs.Tokens.{any-fail, any-fine}
 use Rattle.parser.proofs.Looks.{counted-sums}
 use Rattle.grammar.specs.Productions.{explist}
@@ -138,7 +138,8 @@ unfolding read
 list-returns-2 t c =
     let f1 = any-fine ((c .before .before .before .before .before .before .before .before .before .before .before .before .before .args) .stream .now) (ranks ((c .before .before .before .before .before .before .before .before .before .before .before .before .before .args) .ranking)) 0 (readers ((c .before .before .before .before .before .before .before .before .before .before .before .before .before .args) .stream .now) (ranks ((c .before .before .before .before .before .before .before .before .before .before .before .before .before .args) .ranking)) ((c .before .before .before .before .before .before .before .before .before .before .before .before .before .args) .g)) (hold 0 0 none) again ((c .before .before .before .before .before .before .before .before .before .before .before .before .before .args) .c) ((c .before .before .before .before .before .before .before .before .before .before .before .before .before .args) .nodes .now) ((c .before .before .before .before .before .before .before .before .before .before .before .before .before .args) .used) 0 (((c .before .before .before .before .before .before .before .before .before .before .before .before .before .pre) .1) .formed) (omega (arith, ((c .before .before .before .before .before .before .before .before .before .before .before .before .before .pre) .1) .room)) ((sym ((c .before .before .before .before .before .before .before .before .before .before .take-next) .ensures)) ∙ (c .before .before .before .before .before .before .before .before .d) .given .1) in
     let p = get-place ((c .before .before .before .before .before .before .before .before .before .before .before .before .before .args) .stream .now) ((c .before .before .before .before .before .before .before .before .d) .given .0 .1 .0) (sym ((c .before .before .before .before .before .before .get-next) .ensures) ∙ (c .before .before .before .before .t) .given .1) in
-    let f2 = looked ((c .before .before .before .before .before .before .before .before .before .before .before .before .before .args) .nodes .now) ((c .before .before .before .before .before .before .before .before .before .before .before .before .before .args) .used) 0 ((c .before .before .before .before .before .before .before .before .d) .given .0 .1 .0) ((c .before .before .before .before .t) .given .0 .1 .0) (next-in ((c .before .before .before .before .before .before .before .before .before .before .before .before .before .args) .stream .now) (ranks ((c .before .before .before .before .before .before .before .before .before .before .before .before .before .args) .ranking)) 0 (readers ((c .before .before .before .before .before .before .before .before .before .before .before .before .before .args) .stream .now) (ranks ((c .before .before .before .before .before .before .before .before .before .before .before .before .before .args) .ranking)) ((c .before .before .before .before .before .before .before .before .before .before .before .before .before .args) .g)) (hold 0 0 none) again ((c .before .before .before .before .before .before .before .before .d) .given .0 .1 .0) (50 ∷ []) empty (explist 1) (sym ((c .before .before .before .before .before .before .get-next) .ensures) ∙ (c .before .before .before .before .t) .given .1) (one ((c .before .if1) .taken))) p (f1 .at) (f1 .room) in
+    let p′ = get-note ((c .before .before .before .before .before .before .before .before .before .before .before .before .before .args) .stream .now) ((c .before .before .before .before .before .before .before .before .d) .given .0 .1 .0) (sym ((c .before .before .before .before .before .before .get-next) .ensures) ∙ (c .before .before .before .before .t) .given .1) in
+    let f2 = looked ((c .before .before .before .before .before .before .before .before .before .before .before .before .before .args) .nodes .now) ((c .before .before .before .before .before .before .before .before .before .before .before .before .before .args) .used) 0 ((c .before .before .before .before .before .before .before .before .d) .given .0 .1 .0) ((c .before .before .before .before .t) .given .0 .1 .0) (next-in ((c .before .before .before .before .before .before .before .before .before .before .before .before .before .args) .stream .now) (ranks ((c .before .before .before .before .before .before .before .before .before .before .before .before .before .args) .ranking)) 0 (readers ((c .before .before .before .before .before .before .before .before .before .before .before .before .before .args) .stream .now) (ranks ((c .before .before .before .before .before .before .before .before .before .before .before .before .before .args) .ranking)) ((c .before .before .before .before .before .before .before .before .before .before .before .before .before .args) .g)) (hold 0 0 none) again ((c .before .before .before .before .before .before .before .before .d) .given .0 .1 .0) (50 ∷ []) empty (explist 1) (sym ((c .before .before .before .before .before .before .get-next) .ensures) ∙ (c .before .before .before .before .t) .given .1) (one ((c .before .if1) .taken))) p p′ (f1 .at) (f1 .room) in
     onward-sum (((c .before .before .before .before .before .before .before .before .before .before .before .before .before .args) .c) .place) 0 ((c .before .before .before .before .before .before .before .before .before .before .before .before .before .args) .nodes .now) _ f1 ((c .counted) .result) (counted-sums ((c .before .before .before .before .before .before .before .before .before .before .before .before .before .args) .stream .now) (ranks ((c .before .before .before .before .before .before .before .before .before .before .before .before .before .args) .ranking)) 0 (readers ((c .before .before .before .before .before .before .before .before .before .before .before .before .before .args) .stream .now) (ranks ((c .before .before .before .before .before .before .before .before .before .before .before .before .before .args) .ranking)) ((c .before .before .before .before .before .before .before .before .before .before .before .before .before .args) .g)) (hold 0 0 none) again ((c .before .before .before .before .t) .given .0 .1 .0) 50 refl refl (((c .before .before .before .before .before .before .before .before .before .before .before .before .before .pre) .1) .formed) (((c .before .before .before .before .before .before .before .before .d) .given .0 .1 .0) .place) (((c .before .before .before .before .before .before .before .before .d) .given .0 .1 .0) .place) 0 (follow (read ((c .before .before .before .before .before .before .before .before .before .before .before .before .before .args) .stream .now) (ranks ((c .before .before .before .before .before .before .before .before .before .before .before .before .before .args) .ranking)) 0 (readers ((c .before .before .before .before .before .before .before .before .before .before .before .before .before .args) .stream .now) (ranks ((c .before .before .before .before .before .before .before .before .before .before .before .before .before .args) .ranking)) ((c .before .before .before .before .before .before .before .before .before .before .before .before .before .args) .g)) (hold 0 0 none) (word 50) again) f2) refl (omega (arith, p)) (omega (arith, f2 .room)) (omega (arith, p)) ((c .counted) .result) ((c .counted) .ensures)) (omega arith) (omega (arith, f1 .later))
 
 pub list-exps-requires : (t : ℕ) → list-lts.Need-exps-requires (
@@ -154,6 +155,7 @@ pub list-exps-requires : (t : ℕ) → list-lts.Need-exps-requires (
 list-exps-requires t c κs =
     let f1 = any-fine ((c .before .before .before .before .before .before .before .before .before .before .before .before .before .args) .stream .now) (ranks ((c .before .before .before .before .before .before .before .before .before .before .before .before .before .args) .ranking)) 0 (readers ((c .before .before .before .before .before .before .before .before .before .before .before .before .before .args) .stream .now) (ranks ((c .before .before .before .before .before .before .before .before .before .before .before .before .before .args) .ranking)) ((c .before .before .before .before .before .before .before .before .before .before .before .before .before .args) .g)) (hold 0 0 none) again ((c .before .before .before .before .before .before .before .before .before .before .before .before .before .args) .c) ((c .before .before .before .before .before .before .before .before .before .before .before .before .before .args) .nodes .now) ((c .before .before .before .before .before .before .before .before .before .before .before .before .before .args) .used) 0 (((c .before .before .before .before .before .before .before .before .before .before .before .before .before .pre) .1) .formed) (omega (arith, ((c .before .before .before .before .before .before .before .before .before .before .before .before .before .pre) .1) .room)) ((sym ((c .before .before .before .before .before .before .before .before .before .before .take-next) .ensures)) ∙ (c .before .before .before .before .before .before .before .before .d) .given .1) in
     let p = get-place ((c .before .before .before .before .before .before .before .before .before .before .before .before .before .args) .stream .now) ((c .before .before .before .before .before .before .before .before .d) .given .0 .1 .0) (sym ((c .before .before .before .before .before .before .get-next) .ensures) ∙ (c .before .before .before .before .t) .given .1) in
+    let p′ = get-note ((c .before .before .before .before .before .before .before .before .before .before .before .before .before .args) .stream .now) ((c .before .before .before .before .before .before .before .before .d) .given .0 .1 .0) (sym ((c .before .before .before .before .before .before .get-next) .ensures) ∙ (c .before .before .before .before .t) .given .1) in
     (omega (arith, (c .before .before .before .before .before .before .before .before .before .before .before .before .before .pre) .0), ready-seen (ready-at (((c .before .before .before .before .before .before .before .before .before .before .before .before .before .pre) .1) .formed) f1 (omega arith)) p)
 
 pub list-enum-known-e-3 : (t : ℕ) → list-lts.Need-enum-known-e-3 (
@@ -260,6 +262,7 @@ unfolding read
 list-returns-5 t c =
     let f1 = any-fine ((c .before .before .before .before .before .before .before .before .before .before .before .before .before .before .before .before .before .before .before .before .args) .stream .now) (ranks ((c .before .before .before .before .before .before .before .before .before .before .before .before .before .before .before .before .before .before .before .before .args) .ranking)) 0 (readers ((c .before .before .before .before .before .before .before .before .before .before .before .before .before .before .before .before .before .before .before .before .args) .stream .now) (ranks ((c .before .before .before .before .before .before .before .before .before .before .before .before .before .before .before .before .before .before .before .before .args) .ranking)) ((c .before .before .before .before .before .before .before .before .before .before .before .before .before .before .before .before .before .before .before .before .args) .g)) (hold 0 0 none) again ((c .before .before .before .before .before .before .before .before .before .before .before .before .before .before .before .before .before .before .before .before .args) .c) ((c .before .before .before .before .before .before .before .before .before .before .before .before .before .before .before .before .before .before .before .before .args) .nodes .now) ((c .before .before .before .before .before .before .before .before .before .before .before .before .before .before .before .before .before .before .before .before .args) .used) 0 (((c .before .before .before .before .before .before .before .before .before .before .before .before .before .before .before .before .before .before .before .before .pre) .1) .formed) (omega (arith, ((c .before .before .before .before .before .before .before .before .before .before .before .before .before .before .before .before .before .before .before .before .pre) .1) .room)) ((sym ((c .before .before .before .before .before .before .before .before .before .before .before .before .before .before .before .before .before .take-next) .ensures)) ∙ (c .before .before .before .before .before .before .before .before .before .before .before .before .before .before .before .d) .given .1) in
     let p = get-place ((c .before .before .before .before .before .before .before .before .before .before .before .before .before .before .before .before .before .before .before .before .args) .stream .now) ((c .before .before .before .before .before .before .before .before .before .before .before .before .before .before .before .d) .given .0 .1 .0) (sym ((c .before .before .before .before .before .before .before .before .before .before .before .before .before .get-next) .ensures) ∙ (c .before .before .before .before .before .before .before .before .before .before .before .t) .given .1) in
+    let p′ = get-note ((c .before .before .before .before .before .before .before .before .before .before .before .before .before .before .before .before .before .before .before .before .args) .stream .now) ((c .before .before .before .before .before .before .before .before .before .before .before .before .before .before .before .d) .given .0 .1 .0) (sym ((c .before .before .before .before .before .before .before .before .before .before .before .before .before .get-next) .ensures) ∙ (c .before .before .before .before .before .before .before .before .before .before .before .t) .given .1) in
     let x = rw ((c .before .before .f) .given .1) at ((c .before .before .before .before .before .before .exps) .ensures) in
-    let f2 = alter (next-out ((c .before .before .before .before .before .before .before .before .before .before .before .before .before .before .before .before .before .before .before .before .args) .stream .now) (ranks ((c .before .before .before .before .before .before .before .before .before .before .before .before .before .before .before .before .before .before .before .before .args) .ranking)) 0 (readers ((c .before .before .before .before .before .before .before .before .before .before .before .before .before .before .before .before .before .before .before .before .args) .stream .now) (ranks ((c .before .before .before .before .before .before .before .before .before .before .before .before .before .before .before .before .before .before .before .before .args) .ranking)) ((c .before .before .before .before .before .before .before .before .before .before .before .before .before .before .before .before .before .before .before .before .args) .g)) (hold 0 0 none) again ((c .before .before .before .before .before .before .before .before .before .before .before .before .before .before .before .d) .given .0 .1 .0) (50 ∷ []) empty (explist 1) (sym ((c .before .before .before .before .before .before .before .before .before .before .before .before .before .get-next) .ensures) ∙ (c .before .before .before .before .before .before .before .before .before .before .before .t) .given .1) (other ((c .before .before .before .before .before .before .before .before .if1) .left))) (x .0) in
+    let f2 = alter (next-out ((c .before .before .before .before .before .before .before .before .before .before .before .before .before .before .before .before .before .before .before .before .args) .stream .now) (ranks ((c .before .before .before .before .before .before .before .before .before .before .before .before .before .before .before .before .before .before .before .before .args) .ranking)) 0 (readers ((c .before .before .before .before .before .before .before .before .before .before .before .before .before .before .before .before .before .before .before .before .args) .stream .now) (ranks ((c .before .before .before .before .before .before .before .before .before .before .before .before .before .before .before .before .before .before .before .before .args) .ranking)) ((c .before .before .before .before .before .before .before .before .before .before .before .before .before .before .before .before .before .before .before .before .args) .g)) (hold 0 0 none) again ((c .before .before .before .before .before .before .before .before .before .before .before .before .before .before .before .d) .given .0 .1 .0) (50 ∷ []) empty (explist 1) (sym ((c .before .before .before .before .before .before .before .before .before .before .before .before .before .get-next) .ensures) ∙ (c .before .before .before .before .before .before .before .before .before .before .before .t) .given .1) (other ((c .before .before .before .before .before .before .before .before .if1) .left))) (renoted p′ (x .0)) in
     onward-sum (((c .before .before .before .before .before .before .before .before .before .before .before .before .before .before .before .before .before .before .before .before .args) .c) .place) 0 ((c .before .before .before .before .before .before .exps) .last .1 .0) _ f1 ((c .counted2) .result) (counted-sums ((c .before .before .before .before .before .before .before .before .before .before .before .before .before .before .before .before .before .before .before .before .args) .stream .now) (ranks ((c .before .before .before .before .before .before .before .before .before .before .before .before .before .before .before .before .before .before .before .before .args) .ranking)) 0 (readers ((c .before .before .before .before .before .before .before .before .before .before .before .before .before .before .before .before .before .before .before .before .args) .stream .now) (ranks ((c .before .before .before .before .before .before .before .before .before .before .before .before .before .before .before .before .before .before .before .before .args) .ranking)) ((c .before .before .before .before .before .before .before .before .before .before .before .before .before .before .before .before .before .before .before .before .args) .g)) (hold 0 0 none) again ((c .before .before .f) .given .0 .0) 50 refl refl (((c .before .before .before .before .before .before .before .before .before .before .before .before .before .before .before .before .before .before .before .before .pre) .1) .formed) (((c .before .before .before .before .before .before .before .before .before .before .before .before .before .before .before .d) .given .0 .1 .0) .place) (((c .before .before .before .before .before .before .before .before .before .before .before .before .before .before .before .d) .given .0 .1 .0) .place) 0 (follow (read ((c .before .before .before .before .before .before .before .before .before .before .before .before .before .before .before .before .before .before .before .before .args) .stream .now) (ranks ((c .before .before .before .before .before .before .before .before .before .before .before .before .before .before .before .before .before .before .before .before .args) .ranking)) 0 (readers ((c .before .before .before .before .before .before .before .before .before .before .before .before .before .before .before .before .before .before .before .before .args) .stream .now) (ranks ((c .before .before .before .before .before .before .before .before .before .before .before .before .before .before .before .before .before .before .before .before .args) .ranking)) ((c .before .before .before .before .before .before .before .before .before .before .before .before .before .before .before .before .before .before .before .before .args) .g)) (hold 0 0 none) (word 50) again) f2) refl (omega (arith, p, f2 .later)) (omega (arith, f2 .room)) (omega (arith, p, x .1)) ((c .counted2) .result) ((c .counted2) .ensures)) (omega (arith, p)) (omega (arith, f1 .later))

@@ -388,4 +388,4 @@ numeric-returns-5 t c =
     let f4 = rw ((c .before .before .before .before .before .h) .given .1) at ((c .before .before .before .before .before .before .before .before .before .upto) .ensures) in
     let b = both _ f1 (both _ f2 (both _ f3 f4 (omega arith)) (omega arith)) (omega arith) in
     let w = revalue {w = (c .before .before .before .before .before .before .before .before .before .before .before .before .before .before .before .before .before .before .before .before .before .before .before .before .before .before .before .before .args) .name} (omega arith) (lower (((c .before .before .before .before .before .before .before .before .before .before .before .before .before .before .before .before .before .before .before .before .before .before .before .before .before .before .before .before .args) .c) .place + 1) (both (read ((c .before .before .before .before .before .before .before .before .before .before .before .before .before .before .before .before .before .before .before .before .before .before .before .before .before .before .before .before .args) .stream .now) (ranks ((c .before .before .before .before .before .before .before .before .before .before .before .before .before .before .before .before .before .before .before .before .before .before .before .before .before .before .before .before .args) .ranking)) 0 (readers ((c .before .before .before .before .before .before .before .before .before .before .before .before .before .before .before .before .before .before .before .before .before .before .before .before .before .before .before .before .args) .stream .now) (ranks ((c .before .before .before .before .before .before .before .before .before .before .before .before .before .before .before .before .before .before .before .before .before .before .before .before .before .before .before .before .args) .ranking)) ((c .before .before .before .before .before .before .before .before .before .before .before .before .before .before .before .before .before .before .before .before .before .before .before .before .before .before .before .before .args) .g)) (hold 0 0 none) (any ⨾ expr ⨾ word 48 ⨾ P.upto) again) f0 b (omega arith)) (omega (arith, b .later))) in
-    rw ((c .before .before .close) .ensures .0) (over 6 opening (((c .before .before .before .before .before .before .before .before .before .before .before .before .before .before .before .before .before .before .before .before .before .before .before .before .before .before .before .before .args) .c) .place - 2) ((c .before .before .before .before .before .before .before .before .before .before .before .before .before .before .before .before .before .before .before .before .before .before .before .before .before .before .before .before .args) .line) w ((c .before .before .close) .ensures .1) ((c .before .before .before .before .before .before .before .before .before .before .before .before .before .before .before .before .before .before .before .before .before .before .before .before .before .before .before .before .pre) .1 .1))
+    rw ((c .before .before .close) .ensures .0) (over 6 opening (((c .before .before .before .before .before .before .before .before .before .before .before .before .before .before .before .before .before .before .before .before .before .before .before .before .before .before .before .before .args) .c) .place - 2) ((c .before .before .before .before .before .before .before .before .before .before .before .before .before .before .before .before .before .before .before .before .before .before .before .before .before .before .before .before .args) .line) (refl, refl, refl) w ((c .before .before .close) .ensures .1) ((c .before .before .before .before .before .before .before .before .before .before .before .before .before .before .before .before .before .before .before .before .before .before .before .before .before .before .before .before .pre) .1 .1))

@@ -360,7 +360,7 @@ primary-returns-4 t c =
     let m3 = expect-after ((c .before .before .before .before .before .before .before .before .before .before .before .before .before .before .before .before .before .before .before .before .before .before .args) .stream .now) (ranks ((c .before .before .before .before .before .before .before .before .before .before .before .before .before .before .before .before .before .before .before .before .before .before .args) .ranking)) 0 (readers ((c .before .before .before .before .before .before .before .before .before .before .before .before .before .before .before .before .before .before .before .before .before .before .args) .stream .now) (ranks ((c .before .before .before .before .before .before .before .before .before .before .before .before .before .before .before .before .before .before .before .before .before .before .args) .ranking)) ((c .before .before .before .before .before .before .before .before .before .before .before .before .before .before .before .before .before .before .before .before .before .before .args) .g)) (hold 0 0 none) again f2 50 refl refl (((c .before .before .before .before .before .before .before .before .before .before .before .before .before .before .before .before .before .before .before .before .before .before .pre) .1) .formed) 0 (omega arith) ((c .before .before .before .before .before .before .before .expect) .result) ((c .before .before .before .before .before .before .before .expect) .ensures) in
     let f3 = rw ((c .before .before .before .before .before .f) .given .1) at m3 in
     let g = both _ f1 (both _ f2 f3 (omega arith)) (omega arith) in
-    let f = alter e0 (over 31 unlined (((c .before .before .before .before .before .before .before .before .before .before .before .before .before .before .before .before .before .before .before .before .before .before .args) .c) .place) 0 g ((c .before .before .put) .ensures) refl) in
+    let f = alter e0 (over 31 unlined (((c .before .before .before .before .before .before .before .before .before .before .before .before .before .before .before .before .before .before .before .before .before .before .args) .c) .place) 0 (refl, refl, refl) g ((c .before .before .put) .ensures) refl) in
     (f, tag-is f 31 (ap (last-from 0) e0 ∙ ap (λ (z : Out). last-from 0 (wrap ((c .before .before .before .before .before .before .before .before .before .before .before .before .before .before .before .before .before .before .before .before .before .before .args) .stream .now) 31 unlined (((c .before .before .before .before .before .before .before .before .before .before .before .before .before .before .before .before .before .before .before .before .before .before .args) .c) .place) z)) (g .says)))
 
 pub primary-same-length-4 : (t : ℕ) → primary-lts.Need-same-length-4 (
@@ -393,7 +393,7 @@ unfolding read primary′
 primary-returns-5 t c =
     let e0 = by-kind ((c .before .before .before .before .before .before .before .before .before .before .before .args) .stream .now) (ranks ((c .before .before .before .before .before .before .before .before .before .before .before .args) .ranking)) 0 (readers ((c .before .before .before .before .before .before .before .before .before .before .before .args) .stream .now) (ranks ((c .before .before .before .before .before .before .before .before .before .before .before .args) .ranking)) ((c .before .before .before .before .before .before .before .before .before .before .before .args) .g)) (hold 0 0 none) again ((c .before .before .before .before .before .before .before .before .before .before .before .args) .c) (49, node 31 here unlined (any ⨾ expr ⨾ word 50)) ((58, any ⨾ leaf 30) ∷ []) (refuse 61) (take-gets ((c .before .before .before .before .before .before .before .before .before .before .before .args) .stream .now) ((c .before .before .before .before .before .before .before .before .before .before .before .args) .c) ((sym ((c .before .before .before .before .before .before .before .before .take-next) .ensures)) ∙ (c .before .before .before .before .before .before .t) .given .1)) ((c .before .before .before .before .match2) .keys2) in
     let y = any-says ((c .before .before .before .before .before .before .before .before .before .before .before .args) .stream .now) (ranks ((c .before .before .before .before .before .before .before .before .before .before .before .args) .ranking)) 0 (readers ((c .before .before .before .before .before .before .before .before .before .before .before .args) .stream .now) (ranks ((c .before .before .before .before .before .before .before .before .before .before .before .args) .ranking)) ((c .before .before .before .before .before .before .before .before .before .before .before .args) .g)) (hold 0 0 none) again (readAhead ((c .before .before .before .before .before .before .before .before .before .before .before .args) .stream .now) ((c .before .before .before .before .before .before .before .before .before .before .before .args) .c) 1) (take-takes ((c .before .before .before .before .before .before .before .before .before .before .before .args) .stream .now) ((c .before .before .before .before .before .before .before .before .before .before .before .args) .c) ((sym ((c .before .before .before .before .before .before .before .before .take-next) .ensures)) ∙ (c .before .before .before .before .before .before .t) .given .1)) in
-    let f = alter e0 (leaf-after ((c .before .before .before .before .before .before .before .before .before .before .before .args) .stream .now) (ranks ((c .before .before .before .before .before .before .before .before .before .before .before .args) .ranking)) 0 (readers ((c .before .before .before .before .before .before .before .before .before .before .before .args) .stream .now) (ranks ((c .before .before .before .before .before .before .before .before .before .before .before .args) .ranking)) ((c .before .before .before .before .before .before .before .before .before .before .before .args) .g)) (hold 0 0 none) again (readAhead ((c .before .before .before .before .before .before .before .before .before .before .before .args) .stream .now) ((c .before .before .before .before .before .before .before .before .before .before .before .args) .c) 1) ((c .before .before .before .before .before .before .before .before .before .before .before .args) .nodes .now) ((c .before .before .before .before .before .before .before .before .before .before .before .args) .used) 0 30 (((c .before .before .before .before .before .before .before .before .before .before .before .pre) .1) .formed) (omega (arith, ((c .before .before .before .before .before .before .before .before .before .before .before .pre) .1) .room)) ((c .before .before .put2) .ensures) any y (took-next ((c .before .before .before .before .before .before .before .before .before .before .before .args) .stream .now) (readAhead ((c .before .before .before .before .before .before .before .before .before .before .before .args) .stream .now) ((c .before .before .before .before .before .before .before .before .before .before .before .args) .c) 1) (take-takes ((c .before .before .before .before .before .before .before .before .before .before .before .args) .stream .now) ((c .before .before .before .before .before .before .before .before .before .before .before .args) .c) ((sym ((c .before .before .before .before .before .before .before .before .take-next) .ensures)) ∙ (c .before .before .before .before .before .before .t) .given .1)))) in
+    let f = alter e0 (leaf-after ((c .before .before .before .before .before .before .before .before .before .before .before .args) .stream .now) (ranks ((c .before .before .before .before .before .before .before .before .before .before .before .args) .ranking)) 0 (readers ((c .before .before .before .before .before .before .before .before .before .before .before .args) .stream .now) (ranks ((c .before .before .before .before .before .before .before .before .before .before .before .args) .ranking)) ((c .before .before .before .before .before .before .before .before .before .before .before .args) .g)) (hold 0 0 none) again (readAhead ((c .before .before .before .before .before .before .before .before .before .before .before .args) .stream .now) ((c .before .before .before .before .before .before .before .before .before .before .before .args) .c) 1) ((c .before .before .before .before .before .before .before .before .before .before .before .args) .nodes .now) ((c .before .before .before .before .before .before .before .before .before .before .before .args) .used) 0 30 (refl, refl, refl) (((c .before .before .before .before .before .before .before .before .before .before .before .pre) .1) .formed) (omega (arith, ((c .before .before .before .before .before .before .before .before .before .before .before .pre) .1) .room)) ((c .before .before .put2) .ensures) any y (took-next ((c .before .before .before .before .before .before .before .before .before .before .before .args) .stream .now) (readAhead ((c .before .before .before .before .before .before .before .before .before .before .before .args) .stream .now) ((c .before .before .before .before .before .before .before .before .before .before .before .args) .c) 1) (take-takes ((c .before .before .before .before .before .before .before .before .before .before .before .args) .stream .now) ((c .before .before .before .before .before .before .before .before .before .before .before .args) .c) ((sym ((c .before .before .before .before .before .before .before .before .take-next) .ensures)) ∙ (c .before .before .before .before .before .before .t) .given .1)))) in
     (f, tag-is f 30 (ap (last-from 0) e0 ∙ ap (λ (z : Out). last-from 0 (then z (read ((c .before .before .before .before .before .before .before .before .before .before .before .args) .stream .now) (ranks ((c .before .before .before .before .before .before .before .before .before .before .before .args) .ranking)) 0 (readers ((c .before .before .before .before .before .before .before .before .before .before .before .args) .stream .now) (ranks ((c .before .before .before .before .before .before .before .before .before .before .before .args) .ranking)) ((c .before .before .before .before .before .before .before .before .before .before .before .args) .g)) (hold 0 0 none) (leaf 30) again))) y))
 
 pub primary-returns-6 : (t : ℕ) → primary-lts.Need-returns-6 (

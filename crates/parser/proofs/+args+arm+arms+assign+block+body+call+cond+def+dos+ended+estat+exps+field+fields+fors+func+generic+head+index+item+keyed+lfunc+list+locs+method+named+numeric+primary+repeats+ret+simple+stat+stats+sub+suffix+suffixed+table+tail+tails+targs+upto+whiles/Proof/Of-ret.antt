@@ -21,9 +21,9 @@ use Rattle.grammar.specs.Term.{ahead, check, opening, opt}
 use Rattle.grammar.specs.Term.{empty, any, on}
 use Rattle.parser.specs.Contract.{again}
 use Rattle.stream.proofs.Words.{few}
-use Rattle.parser.proofs.Steps.{look-in, look-out, end-in, look-place, end-place, saw-real}
+use Rattle.parser.proofs.Steps.{look-in, look-out, end-in, look-place, end-place, look-note, end-note, saw-real}
 use Rattle.parser.proofs.Among.{among, nor}
-use Rattle.parser.proofs.Kit.{kept, ready-at, ready-seen, alter, looked, stop, past, closed}
+use Rattle.parser.proofs.Kit.{kept, ready-at, ready-seen, alter, renoted, looked, stop, past, closed}
 use Rattle.parser.proofs.Tokens.{word-fail, word-fine}
 use Rattle.grammar.specs.Productions.{explist, retstat}
 
@@ -125,6 +125,7 @@ pub ret-close-return-requires : (t : ℕ) → ret-lts.Need-close-return-requires
 ret-close-return-requires t c κs =
     let f1 = word-fine ((c .before .before .before .before .before .before .before .before .before .before .before .args) .stream .now) (ranks ((c .before .before .before .before .before .before .before .before .before .before .before .args) .ranking)) 0 (readers ((c .before .before .before .before .before .before .before .before .before .before .before .args) .stream .now) (ranks ((c .before .before .before .before .before .before .before .before .before .before .before .args) .ranking)) ((c .before .before .before .before .before .before .before .before .before .before .before .args) .g)) (hold 0 0 none) again ((c .before .before .before .before .before .before .before .before .before .before .before .args) .c) ((c .before .before .before .before .before .before .before .before .before .before .before .args) .nodes .now) (((c .before .before .before .before .before .before .before .before .before .before .before .args) .used) + 1) 0 (((c .before .before .before .before .before .before .before .before .before .before .before .pre) .1 .0) .formed) (omega (arith, ((c .before .before .before .before .before .before .before .before .before .before .before .pre) .1 .0) .room)) 17 refl refl ((sym ((c .before .before .before .before .before .before .before .before .expect-next) .ensures)) ∙ (c .before .before .before .before .before .before .d) .given .1) in
     let p = end-place ((c .before .before .before .before .before .before .before .before .before .before .before .args) .stream .now) ((c .before .before .before .before .before .before .d) .given .0 .1 .0) (sym ((c .before .before .before .before .look-ahead) .ensures) ∙ (c .before .before .e2) .given .1) in
+    let p′ = end-note ((c .before .before .before .before .before .before .before .before .before .before .before .args) .stream .now) ((c .before .before .before .before .before .before .d) .given .0 .1 .0) (sym ((c .before .before .before .before .look-ahead) .ensures) ∙ (c .before .before .e2) .given .1) in
     (ready-seen (ready-at (((c .before .before .before .before .before .before .before .before .before .before .before .pre) .1 .0) .formed) f1 (omega arith)) p, omega arith)
 
 pub ret-enum-known-t : (t : ℕ) → ret-lts.Need-enum-known-t (
@@ -164,6 +165,7 @@ pub ret-close-return-requires-2 : (t : ℕ) → ret-lts.Need-close-return-requir
 ret-close-return-requires-2 t c κs =
     let f1 = word-fine ((c .before .before .before .before .before .before .before .before .before .before .before .before .args) .stream .now) (ranks ((c .before .before .before .before .before .before .before .before .before .before .before .before .args) .ranking)) 0 (readers ((c .before .before .before .before .before .before .before .before .before .before .before .before .args) .stream .now) (ranks ((c .before .before .before .before .before .before .before .before .before .before .before .before .args) .ranking)) ((c .before .before .before .before .before .before .before .before .before .before .before .before .args) .g)) (hold 0 0 none) again ((c .before .before .before .before .before .before .before .before .before .before .before .before .args) .c) ((c .before .before .before .before .before .before .before .before .before .before .before .before .args) .nodes .now) (((c .before .before .before .before .before .before .before .before .before .before .before .before .args) .used) + 1) 0 (((c .before .before .before .before .before .before .before .before .before .before .before .before .pre) .1 .0) .formed) (omega (arith, ((c .before .before .before .before .before .before .before .before .before .before .before .before .pre) .1 .0) .room)) 17 refl refl ((sym ((c .before .before .before .before .before .before .before .before .before .expect-next) .ensures)) ∙ (c .before .before .before .before .before .before .before .d) .given .1) in
     let p = look-place ((c .before .before .before .before .before .before .before .before .before .before .before .before .args) .stream .now) ((c .before .before .before .before .before .before .before .d) .given .0 .1 .0) (sym ((c .before .before .before .before .before .look-ahead) .ensures) ∙ (c .before .before .before .t) .given .1) in
+    let p′ = look-note ((c .before .before .before .before .before .before .before .before .before .before .before .before .args) .stream .now) ((c .before .before .before .before .before .before .before .d) .given .0 .1 .0) (sym ((c .before .before .before .before .before .look-ahead) .ensures) ∙ (c .before .before .before .t) .given .1) in
     (ready-seen (ready-at (((c .before .before .before .before .before .before .before .before .before .before .before .before .pre) .1 .0) .formed) f1 (omega arith)) p, omega arith)
 
 pub ret-add-close-return-3 : (t : ℕ) → ret-lts.Need-add-close-return-3 (
@@ -191,6 +193,7 @@ pub ret-close-return-requires-3 : (t : ℕ) → ret-lts.Need-close-return-requir
 ret-close-return-requires-3 t c κs =
     let f1 = word-fine ((c .before .before .before .before .before .before .before .before .before .before .before .before .args) .stream .now) (ranks ((c .before .before .before .before .before .before .before .before .before .before .before .before .args) .ranking)) 0 (readers ((c .before .before .before .before .before .before .before .before .before .before .before .before .args) .stream .now) (ranks ((c .before .before .before .before .before .before .before .before .before .before .before .before .args) .ranking)) ((c .before .before .before .before .before .before .before .before .before .before .before .before .args) .g)) (hold 0 0 none) again ((c .before .before .before .before .before .before .before .before .before .before .before .before .args) .c) ((c .before .before .before .before .before .before .before .before .before .before .before .before .args) .nodes .now) (((c .before .before .before .before .before .before .before .before .before .before .before .before .args) .used) + 1) 0 (((c .before .before .before .before .before .before .before .before .before .before .before .before .pre) .1 .0) .formed) (omega (arith, ((c .before .before .before .before .before .before .before .before .before .before .before .before .pre) .1 .0) .room)) 17 refl refl ((sym ((c .before .before .before .before .before .before .before .before .before .expect-next) .ensures)) ∙ (c .before .before .before .before .before .before .before .d) .given .1) in
     let p = look-place ((c .before .before .before .before .before .before .before .before .before .before .before .before .args) .stream .now) ((c .before .before .before .before .before .before .before .d) .given .0 .1 .0) (sym ((c .before .before .before .before .before .look-ahead) .ensures) ∙ (c .before .before .before .t) .given .1) in
+    let p′ = look-note ((c .before .before .before .before .before .before .before .before .before .before .before .before .args) .stream .now) ((c .before .before .before .before .before .before .before .d) .given .0 .1 .0) (sym ((c .before .before .before .before .before .look-ahead) .ensures) ∙ (c .before .before .before .t) .given .1) in
     (ready-seen (ready-at (((c .before .before .before .before .before .before .before .before .before .before .before .before .pre) .1 .0) .formed) f1 (omega arith)) p, omega arith)
 
 pub ret-add-close-return-4 : (t : ℕ) → ret-lts.Need-add-close-return-4 (
@@ -218,6 +221,7 @@ pub ret-close-return-requires-4 : (t : ℕ) → ret-lts.Need-close-return-requir
 ret-close-return-requires-4 t c κs =
     let f1 = word-fine ((c .before .before .before .before .before .before .before .before .before .before .before .before .args) .stream .now) (ranks ((c .before .before .before .before .before .before .before .before .before .before .before .before .args) .ranking)) 0 (readers ((c .before .before .before .before .before .before .before .before .before .before .before .before .args) .stream .now) (ranks ((c .before .before .before .before .before .before .before .before .before .before .before .before .args) .ranking)) ((c .before .before .before .before .before .before .before .before .before .before .before .before .args) .g)) (hold 0 0 none) again ((c .before .before .before .before .before .before .before .before .before .before .before .before .args) .c) ((c .before .before .before .before .before .before .before .before .before .before .before .before .args) .nodes .now) (((c .before .before .before .before .before .before .before .before .before .before .before .before .args) .used) + 1) 0 (((c .before .before .before .before .before .before .before .before .before .before .before .before .pre) .1 .0) .formed) (omega (arith, ((c .before .before .before .before .before .before .before .before .before .before .before .before .pre) .1 .0) .room)) 17 refl refl ((sym ((c .before .before .before .before .before .before .before .before .before .expect-next) .ensures)) ∙ (c .before .before .before .before .before .before .before .d) .given .1) in
     let p = look-place ((c .before .before .before .before .before .before .before .before .before .before .before .before .args) .stream .now) ((c .before .before .before .before .before .before .before .d) .given .0 .1 .0) (sym ((c .before .before .before .before .before .look-ahead) .ensures) ∙ (c .before .before .before .t) .given .1) in
+    let p′ = look-note ((c .before .before .before .before .before .before .before .before .before .before .before .before .args) .stream .now) ((c .before .before .before .before .before .before .before .d) .given .0 .1 .0) (sym ((c .before .before .before .before .before .look-ahead) .ensures) ∙ (c .before .before .before .t) .given .1) in
     (ready-seen (ready-at (((c .before .before .before .before .before .before .before .before .before .before .before .before .pre) .1 .0) .formed) f1 (omega arith)) p, omega arith)
 
 pub ret-add-close-return-5 : (t : ℕ) → ret-lts.Need-add-close-return-5 (
@@ -245,6 +249,7 @@ pub ret-close-return-requires-5 : (t : ℕ) → ret-lts.Need-close-return-requir
 ret-close-return-requires-5 t c κs =
     let f1 = word-fine ((c .before .before .before .before .before .before .before .before .before .before .before .before .args) .stream .now) (ranks ((c .before .before .before .before .before .before .before .before .before .before .before .before .args) .ranking)) 0 (readers ((c .before .before .before .before .before .before .before .before .before .before .before .before .args) .stream .now) (ranks ((c .before .before .before .before .before .before .before .before .before .before .before .before .args) .ranking)) ((c .before .before .before .before .before .before .before .before .before .before .before .before .args) .g)) (hold 0 0 none) again ((c .before .before .before .before .before .before .before .before .before .before .before .before .args) .c) ((c .before .before .before .before .before .before .before .before .before .before .before .before .args) .nodes .now) (((c .before .before .before .before .before .before .before .before .before .before .before .before .args) .used) + 1) 0 (((c .before .before .before .before .before .before .before .before .before .before .before .before .pre) .1 .0) .formed) (omega (arith, ((c .before .before .before .before .before .before .before .before .before .before .before .before .pre) .1 .0) .room)) 17 refl refl ((sym ((c .before .before .before .before .before .before .before .before .before .expect-next) .ensures)) ∙ (c .before .before .before .before .before .before .before .d) .given .1) in
     let p = look-place ((c .before .before .before .before .before .before .before .before .before .before .before .before .args) .stream .now) ((c .before .before .before .before .before .before .before .d) .given .0 .1 .0) (sym ((c .before .before .before .before .before .look-ahead) .ensures) ∙ (c .before .before .before .t) .given .1) in
+    let p′ = look-note ((c .before .before .before .before .before .before .before .before .before .before .before .before .args) .stream .now) ((c .before .before .before .before .before .before .before .d) .given .0 .1 .0) (sym ((c .before .before .before .before .before .look-ahead) .ensures) ∙ (c .before .before .before .t) .given .1) in
     (ready-seen (ready-at (((c .before .before .before .before .before .before .before .before .before .before .before .before .pre) .1 .0) .formed) f1 (omega arith)) p, omega arith)
 
 pub ret-add-close-return-6 : (t : ℕ) → ret-lts.Need-add-close-return-6 (
@@ -272,6 +277,7 @@ pub ret-close-return-requires-6 : (t : ℕ) → ret-lts.Need-close-return-requir
 ret-close-return-requires-6 t c κs =
     let f1 = word-fine ((c .before .before .before .before .before .before .before .before .before .before .before .before .args) .stream .now) (ranks ((c .before .before .before .before .before .before .before .before .before .before .before .before .args) .ranking)) 0 (readers ((c .before .before .before .before .before .before .before .before .before .before .before .before .args) .stream .now) (ranks ((c .before .before .before .before .before .before .before .before .before .before .before .before .args) .ranking)) ((c .before .before .before .before .before .before .before .before .before .before .before .before .args) .g)) (hold 0 0 none) again ((c .before .before .before .before .before .before .before .before .before .before .before .before .args) .c) ((c .before .before .before .before .before .before .before .before .before .before .before .before .args) .nodes .now) (((c .before .before .before .before .before .before .before .before .before .before .before .before .args) .used) + 1) 0 (((c .before .before .before .before .before .before .before .before .before .before .before .before .pre) .1 .0) .formed) (omega (arith, ((c .before .before .before .before .before .before .before .before .before .before .before .before .pre) .1 .0) .room)) 17 refl refl ((sym ((c .before .before .before .before .before .before .before .before .before .expect-next) .ensures)) ∙ (c .before .before .before .before .before .before .before .d) .given .1) in
     let p = look-place ((c .before .before .before .before .before .before .before .before .before .before .before .before .args) .stream .now) ((c .before .before .before .before .before .before .before .d) .given .0 .1 .0) (sym ((c .before .before .before .before .before .look-ahead) .ensures) ∙ (c .before .before .before .t) .given .1) in
+    let p′ = look-note ((c .before .before .before .before .before .before .before .before .before .before .before .before .args) .stream .now) ((c .before .before .before .before .before .before .before .d) .given .0 .1 .0) (sym ((c .before .before .before .before .before .look-ahead) .ensures) ∙ (c .before .before .before .t) .given .1) in
     (ready-seen (ready-at (((c .before .before .before .before .before .before .before .before .before .before .before .before .pre) .1 .0) .formed) f1 (omega arith)) p, omega arith)
 
 pub ret-add-exps : (t : ℕ) → ret-lts.Need-add-exps (
@@ -299,6 +305,7 @@ pub ret-exps-requires : (t : ℕ) → ret-lts.Need-exps-requires (
 ret-exps-requires t c κs =
     let f1 = word-fine ((c .before .before .before .before .before .before .before .before .before .before .before .before .args) .stream .now) (ranks ((c .before .before .before .before .before .before .before .before .before .before .before .before .args) .ranking)) 0 (readers ((c .before .before .before .before .before .before .before .before .before .before .before .before .args) .stream .now) (ranks ((c .before .before .before .before .before .before .before .before .before .before .before .before .args) .ranking)) ((c .before .before .before .before .before .before .before .before .before .before .before .before .args) .g)) (hold 0 0 none) again ((c .before .before .before .before .before .before .before .before .before .before .before .before .args) .c) ((c .before .before .before .before .before .before .before .before .before .before .before .before .args) .nodes .now) (((c .before .before .before .before .before .before .before .before .before .before .before .before .args) .used) + 1) 0 (((c .before .before .before .before .before .before .before .before .before .before .before .before .pre) .1 .0) .formed) (omega (arith, ((c .before .before .before .before .before .before .before .before .before .before .before .before .pre) .1 .0) .room)) 17 refl refl ((sym ((c .before .before .before .before .before .before .before .before .before .expect-next) .ensures)) ∙ (c .before .before .before .before .before .before .before .d) .given .1) in
     let p = look-place ((c .before .before .before .before .before .before .before .before .before .before .before .before .args) .stream .now) ((c .before .before .before .before .before .before .before .d) .given .0 .1 .0) (sym ((c .before .before .before .before .before .look-ahead) .ensures) ∙ (c .before .before .before .t) .given .1) in
+    let p′ = look-note ((c .before .before .before .before .before .before .before .before .before .before .before .before .args) .stream .now) ((c .before .before .before .before .before .before .before .d) .given .0 .1 .0) (sym ((c .before .before .before .before .before .look-ahead) .ensures) ∙ (c .before .before .before .t) .given .1) in
     (omega (arith, (c .before .before .before .before .before .before .before .before .before .before .before .before .pre) .0), ready-seen (ready-at (((c .before .before .before .before .before .before .before .before .before .before .before .before .pre) .1 .0) .formed) f1 (omega arith)) p)
 
 pub ret-enum-known-e-3 : (t : ℕ) → ret-lts.Need-enum-known-e-3 (
@@ -365,7 +372,8 @@ unfolding read retstat
 ret-returns-2 t c =
     let f1 = word-fine ((c .before .before .before .before .before .before .before .before .before .before .before .before .before .before .args) .stream .now) (ranks ((c .before .before .before .before .before .before .before .before .before .before .before .before .before .before .args) .ranking)) 0 (readers ((c .before .before .before .before .before .before .before .before .before .before .before .before .before .before .args) .stream .now) (ranks ((c .before .before .before .before .before .before .before .before .before .before .before .before .before .before .args) .ranking)) ((c .before .before .before .before .before .before .before .before .before .before .before .before .before .before .args) .g)) (hold 0 0 none) again ((c .before .before .before .before .before .before .before .before .before .before .before .before .before .before .args) .c) ((c .before .before .before .before .before .before .before .before .before .before .before .before .before .before .args) .nodes .now) (((c .before .before .before .before .before .before .before .before .before .before .before .before .before .before .args) .used) + 1) 0 (((c .before .before .before .before .before .before .before .before .before .before .before .before .before .before .pre) .1 .0) .formed) (omega (arith, ((c .before .before .before .before .before .before .before .before .before .before .before .before .before .before .pre) .1 .0) .room)) 17 refl refl ((sym ((c .before .before .before .before .before .before .before .before .before .before .before .expect-next) .ensures)) ∙ (c .before .before .before .before .before .before .before .before .before .d) .given .1) in
     let p = end-place ((c .before .before .before .before .before .before .before .before .before .before .before .before .before .before .args) .stream .now) ((c .before .before .before .before .before .before .before .before .before .d) .given .0 .1 .0) (sym ((c .before .before .before .before .before .before .before .look-ahead) .ensures) ∙ (c .before .before .before .before .before .e2) .given .1) in
-    closed ((c .before .before .before .before .before .before .before .before .before .before .before .before .before .before .args) .used) 0 2 0 opening (((c .before .before .before .before .before .before .before .before .before .before .before .before .before .before .args) .c) .place) ((c .before .before .before .before .before .before .before .before .before .before .before .before .before .before .args) .line) ((c .before .before .close-return) .last .1 .0) (read ((c .before .before .before .before .before .before .before .before .before .before .before .before .before .before .args) .stream .now) (ranks ((c .before .before .before .before .before .before .before .before .before .before .before .before .before .before .args) .ranking)) 0 (readers ((c .before .before .before .before .before .before .before .before .before .before .before .before .before .before .args) .stream .now) (ranks ((c .before .before .before .before .before .before .before .before .before .before .before .before .before .before .args) .ranking)) ((c .before .before .before .before .before .before .before .before .before .before .before .before .before .before .args) .g)) (hold 0 0 none) (on ahead (59 ∷ 4 ∷ 45 ∷ 2 ∷ 3 ∷ 20 ∷ []) empty (explist 1)) again) (read ((c .before .before .before .before .before .before .before .before .before .before .before .before .before .before .args) .stream .now) (ranks ((c .before .before .before .before .before .before .before .before .before .before .before .before .before .before .args) .ranking)) 0 (readers ((c .before .before .before .before .before .before .before .before .before .before .before .before .before .before .args) .stream .now) (ranks ((c .before .before .before .before .before .before .before .before .before .before .before .before .before .before .args) .ranking)) ((c .before .before .before .before .before .before .before .before .before .before .before .before .before .before .args) .g)) (hold 0 0 none) (opt check (45 ∷ []) any) again) f1 (looked _ _ 0 ((c .before .before .before .before .before .before .before .before .before .d) .given .0 .1 .0) _ (end-in ((c .before .before .before .before .before .before .before .before .before .before .before .before .before .before .args) .stream .now) (ranks ((c .before .before .before .before .before .before .before .before .before .before .before .before .before .before .args) .ranking)) 0 (readers ((c .before .before .before .before .before .before .before .before .before .before .before .before .before .before .args) .stream .now) (ranks ((c .before .before .before .before .before .before .before .before .before .before .before .before .before .before .args) .ranking)) ((c .before .before .before .before .before .before .before .before .before .before .before .before .before .before .args) .g)) (hold 0 0 none) again ((c .before .before .before .before .before .before .before .before .before .d) .given .0 .1 .0) (59 ∷ 4 ∷ 45 ∷ 2 ∷ 3 ∷ 20 ∷ []) empty (explist 1) (sym ((c .before .before .before .before .before .before .before .look-ahead) .ensures) ∙ (c .before .before .before .before .before .e2) .given .1) refl) p (f1 .at) (f1 .room)) (omega arith) ((c .before .before .close-return) .result) ((c .before .before .close-return) .ensures ((c .before .before .before .before .before .before .before .before .before .before .before .before .before .before .args) .ranking) ((c .before .before .before .before .before .before .before .before .before .before .before .before .before .before .args) .g)) (omega arith) (λ e x y. (c .before .before .before .before .before .before .before .before .before .before .before .before .before .before .pre) .1 .1)
+    let p′ = end-note ((c .before .before .before .before .before .before .before .before .before .before .before .before .before .before .args) .stream .now) ((c .before .before .before .before .before .before .before .before .before .d) .given .0 .1 .0) (sym ((c .before .before .before .before .before .before .before .look-ahead) .ensures) ∙ (c .before .before .before .before .before .e2) .given .1) in
+    closed ((c .before .before .before .before .before .before .before .before .before .before .before .before .before .before .args) .used) 0 2 0 opening (((c .before .before .before .before .before .before .before .before .before .before .before .before .before .before .args) .c) .place) ((c .before .before .before .before .before .before .before .before .before .before .before .before .before .before .args) .line) (refl, refl, refl) ((c .before .before .close-return) .last .1 .0) (read ((c .before .before .before .before .before .before .before .before .before .before .before .before .before .before .args) .stream .now) (ranks ((c .before .before .before .before .before .before .before .before .before .before .before .before .before .before .args) .ranking)) 0 (readers ((c .before .before .before .before .before .before .before .before .before .before .before .before .before .before .args) .stream .now) (ranks ((c .before .before .before .before .before .before .before .before .before .before .before .before .before .before .args) .ranking)) ((c .before .before .before .before .before .before .before .before .before .before .before .before .before .before .args) .g)) (hold 0 0 none) (on ahead (59 ∷ 4 ∷ 45 ∷ 2 ∷ 3 ∷ 20 ∷ []) empty (explist 1)) again) (read ((c .before .before .before .before .before .before .before .before .before .before .before .before .before .before .args) .stream .now) (ranks ((c .before .before .before .before .before .before .before .before .before .before .before .before .before .before .args) .ranking)) 0 (readers ((c .before .before .before .before .before .before .before .before .before .before .before .before .before .before .args) .stream .now) (ranks ((c .before .before .before .before .before .before .before .before .before .before .before .before .before .before .args) .ranking)) ((c .before .before .before .before .before .before .before .before .before .before .before .before .before .before .args) .g)) (hold 0 0 none) (opt check (45 ∷ []) any) again) f1 (looked _ _ 0 ((c .before .before .before .before .before .before .before .before .before .d) .given .0 .1 .0) _ (end-in ((c .before .before .before .before .before .before .before .before .before .before .before .before .before .before .args) .stream .now) (ranks ((c .before .before .before .before .before .before .before .before .before .before .before .before .before .before .args) .ranking)) 0 (readers ((c .before .before .before .before .before .before .before .before .before .before .before .before .before .before .args) .stream .now) (ranks ((c .before .before .before .before .before .before .before .before .before .before .before .before .before .before .args) .ranking)) ((c .before .before .before .before .before .before .before .before .before .before .before .before .before .before .args) .g)) (hold 0 0 none) again ((c .before .before .before .before .before .before .before .before .before .d) .given .0 .1 .0) (59 ∷ 4 ∷ 45 ∷ 2 ∷ 3 ∷ 20 ∷ []) empty (explist 1) (sym ((c .before .before .before .before .before .before .before .look-ahead) .ensures) ∙ (c .before .before .before .before .before .e2) .given .1) refl) p p′ (f1 .at) (f1 .room)) (omega arith) ((c .before .before .close-return) .result) ((c .before .before .close-return) .ensures ((c .before .before .before .before .before .before .before .before .before .before .before .before .before .before .args) .ranking) ((c .before .before .before .before .before .before .before .before .before .before .before .before .before .before .args) .g)) (omega arith) (λ e x y. (c .before .before .before .before .before .before .before .before .before .before .before .before .before .before .pre) .1 .1)
 
 pub ret-same-length-2 : (t : ℕ) → ret-lts.Need-same-length-2 (
   expect-next-reads.Asked,
@@ -393,8 +401,9 @@ unfolding read retstat
 ret-returns-3 t c =
     let f1 = word-fine ((c .before .before .before .before .before .before .before .before .before .before .before .before .before .before .before .args) .stream .now) (ranks ((c .before .before .before .before .before .before .before .before .before .before .before .before .before .before .before .args) .ranking)) 0 (readers ((c .before .before .before .before .before .before .before .before .before .before .before .before .before .before .before .args) .stream .now) (ranks ((c .before .before .before .before .before .before .before .before .before .before .before .before .before .before .before .args) .ranking)) ((c .before .before .before .before .before .before .before .before .before .before .before .before .before .before .before .args) .g)) (hold 0 0 none) again ((c .before .before .before .before .before .before .before .before .before .before .before .before .before .before .before .args) .c) ((c .before .before .before .before .before .before .before .before .before .before .before .before .before .before .before .args) .nodes .now) (((c .before .before .before .before .before .before .before .before .before .before .before .before .before .before .before .args) .used) + 1) 0 (((c .before .before .before .before .before .before .before .before .before .before .before .before .before .before .before .pre) .1 .0) .formed) (omega (arith, ((c .before .before .before .before .before .before .before .before .before .before .before .before .before .before .before .pre) .1 .0) .room)) 17 refl refl ((sym ((c .before .before .before .before .before .before .before .before .before .before .before .before .expect-next) .ensures)) ∙ (c .before .before .before .before .before .before .before .before .before .before .d) .given .1) in
     let p = look-place ((c .before .before .before .before .before .before .before .before .before .before .before .before .before .before .before .args) .stream .now) ((c .before .before .before .before .before .before .before .before .before .before .d) .given .0 .1 .0) (sym ((c .before .before .before .before .before .before .before .before .look-ahead) .ensures) ∙ (c .before .before .before .before .before .before .t) .given .1) in
+    let p′ = look-note ((c .before .before .before .before .before .before .before .before .before .before .before .before .before .before .before .args) .stream .now) ((c .before .before .before .before .before .before .before .before .before .before .d) .given .0 .1 .0) (sym ((c .before .before .before .before .before .before .before .before .look-ahead) .ensures) ∙ (c .before .before .before .before .before .before .t) .given .1) in
     let q = (c .before .before .before .before .match3) .keys1 in
-    closed ((c .before .before .before .before .before .before .before .before .before .before .before .before .before .before .before .args) .used) 0 2 0 opening (((c .before .before .before .before .before .before .before .before .before .before .before .before .before .before .before .args) .c) .place) ((c .before .before .before .before .before .before .before .before .before .before .before .before .before .before .before .args) .line) ((c .before .before .close-return2) .last .1 .0) (read ((c .before .before .before .before .before .before .before .before .before .before .before .before .before .before .before .args) .stream .now) (ranks ((c .before .before .before .before .before .before .before .before .before .before .before .before .before .before .before .args) .ranking)) 0 (readers ((c .before .before .before .before .before .before .before .before .before .before .before .before .before .before .before .args) .stream .now) (ranks ((c .before .before .before .before .before .before .before .before .before .before .before .before .before .before .before .args) .ranking)) ((c .before .before .before .before .before .before .before .before .before .before .before .before .before .before .before .args) .g)) (hold 0 0 none) (on ahead (59 ∷ 4 ∷ 45 ∷ 2 ∷ 3 ∷ 20 ∷ []) empty (explist 1)) again) (read ((c .before .before .before .before .before .before .before .before .before .before .before .before .before .before .before .args) .stream .now) (ranks ((c .before .before .before .before .before .before .before .before .before .before .before .before .before .before .before .args) .ranking)) 0 (readers ((c .before .before .before .before .before .before .before .before .before .before .before .before .before .before .before .args) .stream .now) (ranks ((c .before .before .before .before .before .before .before .before .before .before .before .before .before .before .before .args) .ranking)) ((c .before .before .before .before .before .before .before .before .before .before .before .before .before .before .before .args) .g)) (hold 0 0 none) (opt check (45 ∷ []) any) again) f1 (looked _ _ 0 ((c .before .before .before .before .before .before .before .before .before .before .d) .given .0 .1 .0) _ (look-in ((c .before .before .before .before .before .before .before .before .before .before .before .before .before .before .before .args) .stream .now) (ranks ((c .before .before .before .before .before .before .before .before .before .before .before .before .before .before .before .args) .ranking)) 0 (readers ((c .before .before .before .before .before .before .before .before .before .before .before .before .before .before .before .args) .stream .now) (ranks ((c .before .before .before .before .before .before .before .before .before .before .before .before .before .before .before .args) .ranking)) ((c .before .before .before .before .before .before .before .before .before .before .before .before .before .before .before .args) .g)) (hold 0 0 none) again ((c .before .before .before .before .before .before .before .before .before .before .d) .given .0 .1 .0) (59 ∷ 4 ∷ 45 ∷ 2 ∷ 3 ∷ 20 ∷ []) empty (explist 1) (sym ((c .before .before .before .before .before .before .before .before .look-ahead) .ensures) ∙ (c .before .before .before .before .before .before .t) .given .1) (among (59 ∷ 4 ∷ 45 ∷ 2 ∷ 3 ∷ 20 ∷ []) q)) p (f1 .at) (f1 .room)) (omega arith) ((c .before .before .close-return2) .result) ((c .before .before .close-return2) .ensures ((c .before .before .before .before .before .before .before .before .before .before .before .before .before .before .before .args) .ranking) ((c .before .before .before .before .before .before .before .before .before .before .before .before .before .before .before .args) .g)) (omega arith) (λ e x y. (c .before .before .before .before .before .before .before .before .before .before .before .before .before .before .before .pre) .1 .1)
+    closed ((c .before .before .before .before .before .before .before .before .before .before .before .before .before .before .before .args) .used) 0 2 0 opening (((c .before .before .before .before .before .before .before .before .before .before .before .before .before .before .before .args) .c) .place) ((c .before .before .before .before .before .before .before .before .before .before .before .before .before .before .before .args) .line) (refl, refl, refl) ((c .before .before .close-return2) .last .1 .0) (read ((c .before .before .before .before .before .before .before .before .before .before .before .before .before .before .before .args) .stream .now) (ranks ((c .before .before .before .before .before .before .before .before .before .before .before .before .before .before .before .args) .ranking)) 0 (readers ((c .before .before .before .before .before .before .before .before .before .before .before .before .before .before .before .args) .stream .now) (ranks ((c .before .before .before .before .before .before .before .before .before .before .before .before .before .before .before .args) .ranking)) ((c .before .before .before .before .before .before .before .before .before .before .before .before .before .before .before .args) .g)) (hold 0 0 none) (on ahead (59 ∷ 4 ∷ 45 ∷ 2 ∷ 3 ∷ 20 ∷ []) empty (explist 1)) again) (read ((c .before .before .before .before .before .before .before .before .before .before .before .before .before .before .before .args) .stream .now) (ranks ((c .before .before .before .before .before .before .before .before .before .before .before .before .before .before .before .args) .ranking)) 0 (readers ((c .before .before .before .before .before .before .before .before .before .before .before .before .before .before .before .args) .stream .now) (ranks ((c .before .before .before .before .before .before .before .before .before .before .before .before .before .before .before .args) .ranking)) ((c .before .before .before .before .before .before .before .before .before .before .before .before .before .before .before .args) .g)) (hold 0 0 none) (opt check (45 ∷ []) any) again) f1 (looked _ _ 0 ((c .before .before .before .before .before .before .before .before .before .before .d) .given .0 .1 .0) _ (look-in ((c .before .before .before .before .before .before .before .before .before .before .before .before .before .before .before .args) .stream .now) (ranks ((c .before .before .before .before .before .before .before .before .before .before .before .before .before .before .before .args) .ranking)) 0 (readers ((c .before .before .before .before .before .before .before .before .before .before .before .before .before .before .before .args) .stream .now) (ranks ((c .before .before .before .before .before .before .before .before .before .before .before .before .before .before .before .args) .ranking)) ((c .before .before .before .before .before .before .before .before .before .before .before .before .before .before .before .args) .g)) (hold 0 0 none) again ((c .before .before .before .before .before .before .before .before .before .before .d) .given .0 .1 .0) (59 ∷ 4 ∷ 45 ∷ 2 ∷ 3 ∷ 20 ∷ []) empty (explist 1) (sym ((c .before .before .before .before .before .before .before .before .look-ahead) .ensures) ∙ (c .before .before .before .before .before .before .t) .given .1) (among (59 ∷ 4 ∷ 45 ∷ 2 ∷ 3 ∷ 20 ∷ []) q)) p p′ (f1 .at) (f1 .room)) (omega arith) ((c .before .before .close-return2) .result) ((c .before .before .close-return2) .ensures ((c .before .before .before .before .before .before .before .before .before .before .before .before .before .before .before .args) .ranking) ((c .before .before .before .before .before .before .before .before .before .before .before .before .before .before .before .args) .g)) (omega arith) (λ e x y. (c .before .before .before .before .before .before .before .before .before .before .before .before .before .before .before .pre) .1 .1)
 
 pub ret-same-length-3 : (t : ℕ) → ret-lts.Need-same-length-3 (
   expect-next-reads.Asked,
@@ -422,8 +431,9 @@ unfolding read retstat
 ret-returns-4 t c =
     let f1 = word-fine ((c .before .before .before .before .before .before .before .before .before .before .before .before .before .before .before .args) .stream .now) (ranks ((c .before .before .before .before .before .before .before .before .before .before .before .before .before .before .before .args) .ranking)) 0 (readers ((c .before .before .before .before .before .before .before .before .before .before .before .before .before .before .before .args) .stream .now) (ranks ((c .before .before .before .before .before .before .before .before .before .before .before .before .before .before .before .args) .ranking)) ((c .before .before .before .before .before .before .before .before .before .before .before .before .before .before .before .args) .g)) (hold 0 0 none) again ((c .before .before .before .before .before .before .before .before .before .before .before .before .before .before .before .args) .c) ((c .before .before .before .before .before .before .before .before .before .before .before .before .before .before .before .args) .nodes .now) (((c .before .before .before .before .before .before .before .before .before .before .before .before .before .before .before .args) .used) + 1) 0 (((c .before .before .before .before .before .before .before .before .before .before .before .before .before .before .before .pre) .1 .0) .formed) (omega (arith, ((c .before .before .before .before .before .before .before .before .before .before .before .before .before .before .before .pre) .1 .0) .room)) 17 refl refl ((sym ((c .before .before .before .before .before .before .before .before .before .before .before .before .expect-next) .ensures)) ∙ (c .before .before .before .before .before .before .before .before .before .before .d) .given .1) in
     let p = look-place ((c .before .before .before .before .before .before .before .before .before .before .before .before .before .before .before .args) .stream .now) ((c .before .before .before .before .before .before .before .before .before .before .d) .given .0 .1 .0) (sym ((c .before .before .before .before .before .before .before .before .look-ahead) .ensures) ∙ (c .before .before .before .before .before .before .t) .given .1) in
+    let p′ = look-note ((c .before .before .before .before .before .before .before .before .before .before .before .before .before .before .before .args) .stream .now) ((c .before .before .before .before .before .before .before .before .before .before .d) .given .0 .1 .0) (sym ((c .before .before .before .before .before .before .before .before .look-ahead) .ensures) ∙ (c .before .before .before .before .before .before .t) .given .1) in
     let q = (c .before .before .before .before .match3) .keys2 in
-    closed ((c .before .before .before .before .before .before .before .before .before .before .before .before .before .before .before .args) .used) 0 2 0 opening (((c .before .before .before .before .before .before .before .before .before .before .before .before .before .before .before .args) .c) .place) ((c .before .before .before .before .before .before .before .before .before .before .before .before .before .before .before .args) .line) ((c .before .before .close-return3) .last .1 .0) (read ((c .before .before .before .before .before .before .before .before .before .before .before .before .before .before .before .args) .stream .now) (ranks ((c .before .before .before .before .before .before .before .before .before .before .before .before .before .before .before .args) .ranking)) 0 (readers ((c .before .before .before .before .before .before .before .before .before .before .before .before .before .before .before .args) .stream .now) (ranks ((c .before .before .before .before .before .before .before .before .before .before .before .before .before .before .before .args) .ranking)) ((c .before .before .before .before .before .before .before .before .before .before .before .before .before .before .before .args) .g)) (hold 0 0 none) (on ahead (59 ∷ 4 ∷ 45 ∷ 2 ∷ 3 ∷ 20 ∷ []) empty (explist 1)) again) (read ((c .before .before .before .before .before .before .before .before .before .before .before .before .before .before .before .args) .stream .now) (ranks ((c .before .before .before .before .before .before .before .before .before .before .before .before .before .before .before .args) .ranking)) 0 (readers ((c .before .before .before .before .before .before .before .before .before .before .before .before .before .before .before .args) .stream .now) (ranks ((c .before .before .before .before .before .before .before .before .before .before .before .before .before .before .before .args) .ranking)) ((c .before .before .before .before .before .before .before .before .before .before .before .before .before .before .before .args) .g)) (hold 0 0 none) (opt check (45 ∷ []) any) again) f1 (looked _ _ 0 ((c .before .before .before .before .before .before .before .before .before .before .d) .given .0 .1 .0) _ (look-in ((c .before .before .before .before .before .before .before .before .before .before .before .before .before .before .before .args) .stream .now) (ranks ((c .before .before .before .before .before .before .before .before .before .before .before .before .before .before .before .args) .ranking)) 0 (readers ((c .before .before .before .before .before .before .before .before .before .before .before .before .before .before .before .args) .stream .now) (ranks ((c .before .before .before .before .before .before .before .before .before .before .before .before .before .before .before .args) .ranking)) ((c .before .before .before .before .before .before .before .before .before .before .before .before .before .before .before .args) .g)) (hold 0 0 none) again ((c .before .before .before .before .before .before .before .before .before .before .d) .given .0 .1 .0) (59 ∷ 4 ∷ 45 ∷ 2 ∷ 3 ∷ 20 ∷ []) empty (explist 1) (sym ((c .before .before .before .before .before .before .before .before .look-ahead) .ensures) ∙ (c .before .before .before .before .before .before .t) .given .1) (among (59 ∷ 4 ∷ 45 ∷ 2 ∷ 3 ∷ 20 ∷ []) q)) p (f1 .at) (f1 .room)) (omega arith) ((c .before .before .close-return3) .result) ((c .before .before .close-return3) .ensures ((c .before .before .before .before .before .before .before .before .before .before .before .before .before .before .before .args) .ranking) ((c .before .before .before .before .before .before .before .before .before .before .before .before .before .before .before .args) .g)) (omega arith) (λ e x y. (c .before .before .before .before .before .before .before .before .before .before .before .before .before .before .before .pre) .1 .1)
+    closed ((c .before .before .before .before .before .before .before .before .before .before .before .before .before .before .before .args) .used) 0 2 0 opening (((c .before .before .before .before .before .before .before .before .before .before .before .before .before .before .before .args) .c) .place) ((c .before .before .before .before .before .before .before .before .before .before .before .before .before .before .before .args) .line) (refl, refl, refl) ((c .before .before .close-return3) .last .1 .0) (read ((c .before .before .before .before .before .before .before .before .before .before .before .before .before .before .before .args) .stream .now) (ranks ((c .before .before .before .before .before .before .before .before .before .before .before .before .before .before .before .args) .ranking)) 0 (readers ((c .before .before .before .before .before .before .before .before .before .before .before .before .before .before .before .args) .stream .now) (ranks ((c .before .before .before .before .before .before .before .before .before .before .before .before .before .before .before .args) .ranking)) ((c .before .before .before .before .before .before .before .before .before .before .before .before .before .before .before .args) .g)) (hold 0 0 none) (on ahead (59 ∷ 4 ∷ 45 ∷ 2 ∷ 3 ∷ 20 ∷ []) empty (explist 1)) again) (read ((c .before .before .before .before .before .before .before .before .before .before .before .before .before .before .before .args) .stream .now) (ranks ((c .before .before .before .before .before .before .before .before .before .before .before .before .before .before .before .args) .ranking)) 0 (readers ((c .before .before .before .before .before .before .before .before .before .before .before .before .before .before .before .args) .stream .now) (ranks ((c .before .before .before .before .before .before .before .before .before .before .before .before .before .before .before .args) .ranking)) ((c .before .before .before .before .before .before .before .before .before .before .before .before .before .before .before .args) .g)) (hold 0 0 none) (opt check (45 ∷ []) any) again) f1 (looked _ _ 0 ((c .before .before .before .before .before .before .before .before .before .before .d) .given .0 .1 .0) _ (look-in ((c .before .before .before .before .before .before .before .before .before .before .before .before .before .before .before .args) .stream .now) (ranks ((c .before .before .before .before .before .before .before .before .before .before .before .before .before .before .before .args) .ranking)) 0 (readers ((c .before .before .before .before .before .before .before .before .before .before .before .before .before .before .before .args) .stream .now) (ranks ((c .before .before .before .before .before .before .before .before .before .before .before .before .before .before .before .args) .ranking)) ((c .before .before .before .before .before .before .before .before .before .before .before .before .before .before .before .args) .g)) (hold 0 0 none) again ((c .before .before .before .before .before .before .before .before .before .before .d) .given .0 .1 .0) (59 ∷ 4 ∷ 45 ∷ 2 ∷ 3 ∷ 20 ∷ []) empty (explist 1) (sym ((c .before .before .before .before .before .before .before .before .look-ahead) .ensures) ∙ (c .before .before .before .before .before .before .t) .given .1) (among (59 ∷ 4 ∷ 45 ∷ 2 ∷ 3 ∷ 20 ∷ []) q)) p p′ (f1 .at) (f1 .room)) (omega arith) ((c .before .before .close-return3) .result) ((c .before .before .close-return3) .ensures ((c .before .before .before .before .before .before .before .before .before .before .before .before .before .before .before .args) .ranking) ((c .before .before .before .before .before .before .before .before .before .before .before .before .before .before .before .args) .g)) (omega arith) (λ e x y. (c .before .before .before .before .before .before .before .before .before .before .before .before .before .before .before .pre) .1 .1)
 
 pub ret-same-length-4 : (t : ℕ) → ret-lts.Need-same-length-4 (
   expect-next-reads.Asked,
@@ -451,8 +461,9 @@ unfolding read retstat
 ret-returns-5 t c =
     let f1 = word-fine ((c .before .before .before .before .before .before .before .before .before .before .before .before .before .before .before .args) .stream .now) (ranks ((c .before .before .before .before .before .before .before .before .before .before .before .before .before .before .before .args) .ranking)) 0 (readers ((c .before .before .before .before .before .before .before .before .before .before .before .before .before .before .before .args) .stream .now) (ranks ((c .before .before .before .before .before .before .before .before .before .before .before .before .before .before .before .args) .ranking)) ((c .before .before .before .before .before .before .before .before .before .before .before .before .before .before .before .args) .g)) (hold 0 0 none) again ((c .before .before .before .before .before .before .before .before .before .before .before .before .before .before .before .args) .c) ((c .before .before .before .before .before .before .before .before .before .before .before .before .before .before .before .args) .nodes .now) (((c .before .before .before .before .before .before .before .before .before .before .before .before .before .before .before .args) .used) + 1) 0 (((c .before .before .before .before .before .before .before .before .before .before .before .before .before .before .before .pre) .1 .0) .formed) (omega (arith, ((c .before .before .before .before .before .before .before .before .before .before .before .before .before .before .before .pre) .1 .0) .room)) 17 refl refl ((sym ((c .before .before .before .before .before .before .before .before .before .before .before .before .expect-next) .ensures)) ∙ (c .before .before .before .before .before .before .before .before .before .before .d) .given .1) in
     let p = look-place ((c .before .before .before .before .before .before .before .before .before .before .before .before .before .before .before .args) .stream .now) ((c .before .before .before .before .before .before .before .before .before .before .d) .given .0 .1 .0) (sym ((c .before .before .before .before .before .before .before .before .look-ahead) .ensures) ∙ (c .before .before .before .before .before .before .t) .given .1) in
+    let p′ = look-note ((c .before .before .before .before .before .before .before .before .before .before .before .before .before .before .before .args) .stream .now) ((c .before .before .before .before .before .before .before .before .before .before .d) .given .0 .1 .0) (sym ((c .before .before .before .before .before .before .before .before .look-ahead) .ensures) ∙ (c .before .before .before .before .before .before .t) .given .1) in
     let q = (c .before .before .before .before .match3) .keys3 in
-    closed ((c .before .before .before .before .before .before .before .before .before .before .before .before .before .before .before .args) .used) 0 2 0 opening (((c .before .before .before .before .before .before .before .before .before .before .before .before .before .before .before .args) .c) .place) ((c .before .before .before .before .before .before .before .before .before .before .before .before .before .before .before .args) .line) ((c .before .before .close-return4) .last .1 .0) (read ((c .before .before .before .before .before .before .before .before .before .before .before .before .before .before .before .args) .stream .now) (ranks ((c .before .before .before .before .before .before .before .before .before .before .before .before .before .before .before .args) .ranking)) 0 (readers ((c .before .before .before .before .before .before .before .before .before .before .before .before .before .before .before .args) .stream .now) (ranks ((c .before .before .before .before .before .before .before .before .before .before .before .before .before .before .before .args) .ranking)) ((c .before .before .before .before .before .before .before .before .before .before .before .before .before .before .before .args) .g)) (hold 0 0 none) (on ahead (59 ∷ 4 ∷ 45 ∷ 2 ∷ 3 ∷ 20 ∷ []) empty (explist 1)) again) (read ((c .before .before .before .before .before .before .before .before .before .before .before .before .before .before .before .args) .stream .now) (ranks ((c .before .before .before .before .before .before .before .before .before .before .before .before .before .before .before .args) .ranking)) 0 (readers ((c .before .before .before .before .before .before .before .before .before .before .before .before .before .before .before .args) .stream .now) (ranks ((c .before .before .before .before .before .before .before .before .before .before .before .before .before .before .before .args) .ranking)) ((c .before .before .before .before .before .before .before .before .before .before .before .before .before .before .before .args) .g)) (hold 0 0 none) (opt check (45 ∷ []) any) again) f1 (looked _ _ 0 ((c .before .before .before .before .before .before .before .before .before .before .d) .given .0 .1 .0) _ (look-in ((c .before .before .before .before .before .before .before .before .before .before .before .before .before .before .before .args) .stream .now) (ranks ((c .before .before .before .before .before .before .before .before .before .before .before .before .before .before .before .args) .ranking)) 0 (readers ((c .before .before .before .before .before .before .before .before .before .before .before .before .before .before .before .args) .stream .now) (ranks ((c .before .before .before .before .before .before .before .before .before .before .before .before .before .before .before .args) .ranking)) ((c .before .before .before .before .before .before .before .before .before .before .before .before .before .before .before .args) .g)) (hold 0 0 none) again ((c .before .before .before .before .before .before .before .before .before .before .d) .given .0 .1 .0) (59 ∷ 4 ∷ 45 ∷ 2 ∷ 3 ∷ 20 ∷ []) empty (explist 1) (sym ((c .before .before .before .before .before .before .before .before .look-ahead) .ensures) ∙ (c .before .before .before .before .before .before .t) .given .1) (among (59 ∷ 4 ∷ 45 ∷ 2 ∷ 3 ∷ 20 ∷ []) q)) p (f1 .at) (f1 .room)) (omega arith) ((c .before .before .close-return4) .result) ((c .before .before .close-return4) .ensures ((c .before .before .before .before .before .before .before .before .before .before .before .before .before .before .before .args) .ranking) ((c .before .before .before .before .before .before .before .before .before .before .before .before .before .before .before .args) .g)) (omega arith) (λ e x y. (c .before .before .before .before .before .before .before .before .before .before .before .before .before .before .before .pre) .1 .1)
+    closed ((c .before .before .before .before .before .before .before .before .before .before .before .before .before .before .before .args) .used) 0 2 0 opening (((c .before .before .before .before .before .before .before .before .before .before .before .before .before .before .before .args) .c) .place) ((c .before .before .before .before .before .before .before .before .before .before .before .before .before .before .before .args) .line) (refl, refl, refl) ((c .before .before .close-return4) .last .1 .0) (read ((c .before .before .before .before .before .before .before .before .before .before .before .before .before .before .before .args) .stream .now) (ranks ((c .before .before .before .before .before .before .before .before .before .before .before .before .before .before .before .args) .ranking)) 0 (readers ((c .before .before .before .before .before .before .before .before .before .before .before .before .before .before .before .args) .stream .now) (ranks ((c .before .before .before .before .before .before .before .before .before .before .before .before .before .before .before .args) .ranking)) ((c .before .before .before .before .before .before .before .before .before .before .before .before .before .before .before .args) .g)) (hold 0 0 none) (on ahead (59 ∷ 4 ∷ 45 ∷ 2 ∷ 3 ∷ 20 ∷ []) empty (explist 1)) again) (read ((c .before .before .before .before .before .before .before .before .before .before .before .before .before .before .before .args) .stream .now) (ranks ((c .before .before .before .before .before .before .before .before .before .before .before .before .before .before .before .args) .ranking)) 0 (readers ((c .before .before .before .before .before .before .before .before .before .before .before .before .before .before .before .args) .stream .now) (ranks ((c .before .before .before .before .before .before .before .before .before .before .before .before .before .before .before .args) .ranking)) ((c .before .before .before .before .before .before .before .before .before .before .before .before .before .before .before .args) .g)) (hold 0 0 none) (opt check (45 ∷ []) any) again) f1 (looked _ _ 0 ((c .before .before .before .before .before .before .before .before .before .before .d) .given .0 .1 .0) _ (look-in ((c .before .before .before .before .before .before .before .before .before .before .before .before .before .before .before .args) .stream .now) (ranks ((c .before .before .before .before .before .before .before .before .before .before .before .before .before .before .before .args) .ranking)) 0 (readers ((c .before .before .before .before .before .before .before .before .before .before .before .before .before .before .before .args) .stream .now) (ranks ((c .before .before .before .before .before .before .before .before .before .before .before .before .before .before .before .args) .ranking)) ((c .before .before .before .before .before .before .before .before .before .before .before .before .before .before .before .args) .g)) (hold 0 0 none) again ((c .before .before .before .before .before .before .before .before .before .before .d) .given .0 .1 .0) (59 ∷ 4 ∷ 45 ∷ 2 ∷ 3 ∷ 20 ∷ []) empty (explist 1) (sym ((c .before .before .before .before .before .before .before .before .look-ahead) .ensures) ∙ (c .before .before .before .before .before .before .t) .given .1) (among (59 ∷ 4 ∷ 45 ∷ 2 ∷ 3 ∷ 20 ∷ []) q)) p p′ (f1 .at) (f1 .room)) (omega arith) ((c .before .before .close-return4) .result) ((c .before .before .close-return4) .ensures ((c .before .before .before .before .before .before .before .before .before .before .before .before .before .before .before .args) .ranking) ((c .before .before .before .before .before .before .before .before .before .before .before .before .before .before .before .args) .g)) (omega arith) (λ e x y. (c .before .before .before .before .before .before .before .before .before .before .before .before .before .before .before .pre) .1 .1)
 
 pub ret-same-length-5 : (t : ℕ) → ret-lts.Need-same-length-5 (
   expect-next-reads.Asked,
@@ -480,8 +491,9 @@ unfolding read retstat
 ret-returns-6 t c =
     let f1 = word-fine ((c .before .before .before .before .before .before .before .before .before .before .before .before .before .before .before .args) .stream .now) (ranks ((c .before .before .before .before .before .before .before .before .before .before .before .before .before .before .before .args) .ranking)) 0 (readers ((c .before .before .before .before .before .before .before .before .before .before .before .before .before .before .before .args) .stream .now) (ranks ((c .before .before .before .before .before .before .before .before .before .before .before .before .before .before .before .args) .ranking)) ((c .before .before .before .before .before .before .before .before .before .before .before .before .before .before .before .args) .g)) (hold 0 0 none) again ((c .before .before .before .before .before .before .before .before .before .before .before .before .before .before .before .args) .c) ((c .before .before .before .before .before .before .before .before .before .before .before .before .before .before .before .args) .nodes .now) (((c .before .before .before .before .before .before .before .before .before .before .before .before .before .before .before .args) .used) + 1) 0 (((c .before .before .before .before .before .before .before .before .before .before .before .before .before .before .before .pre) .1 .0) .formed) (omega (arith, ((c .before .before .before .before .before .before .before .before .before .before .before .before .before .before .before .pre) .1 .0) .room)) 17 refl refl ((sym ((c .before .before .before .before .before .before .before .before .before .before .before .before .expect-next) .ensures)) ∙ (c .before .before .before .before .before .before .before .before .before .before .d) .given .1) in
     let p = look-place ((c .before .before .before .before .before .before .before .before .before .before .before .before .before .before .before .args) .stream .now) ((c .before .before .before .before .before .before .before .before .before .before .d) .given .0 .1 .0) (sym ((c .before .before .before .before .before .before .before .before .look-ahead) .ensures) ∙ (c .before .before .before .before .before .before .t) .given .1) in
+    let p′ = look-note ((c .before .before .before .before .before .before .before .before .before .before .before .before .before .before .before .args) .stream .now) ((c .before .before .before .before .before .before .before .before .before .before .d) .given .0 .1 .0) (sym ((c .before .before .before .before .before .before .before .before .look-ahead) .ensures) ∙ (c .before .before .before .before .before .before .t) .given .1) in
     let q = (c .before .before .before .before .match3) .keys4 in
-    closed ((c .before .before .before .before .before .before .before .before .before .before .before .before .before .before .before .args) .used) 0 2 0 opening (((c .before .before .before .before .before .before .before .before .before .before .before .before .before .before .before .args) .c) .place) ((c .before .before .before .before .before .before .before .before .before .before .before .before .before .before .before .args) .line) ((c .before .before .close-return5) .last .1 .0) (read ((c .before .before .before .before .before .before .before .before .before .before .before .before .before .before .before .args) .stream .now) (ranks ((c .before .before .before .before .before .before .before .before .before .before .before .before .before .before .before .args) .ranking)) 0 (readers ((c .before .before .before .before .before .before .before .before .before .before .before .before .before .before .before .args) .stream .now) (ranks ((c .before .before .before .before .before .before .before .before .before .before .before .before .before .before .before .args) .ranking)) ((c .before .before .before .before .before .before .before .before .before .before .before .before .before .before .before .args) .g)) (hold 0 0 none) (on ahead (59 ∷ 4 ∷ 45 ∷ 2 ∷ 3 ∷ 20 ∷ []) empty (explist 1)) again) (read ((c .before .before .before .before .before .before .before .before .before .before .before .before .before .before .before .args) .stream .now) (ranks ((c .before .before .before .before .before .before .before .before .before .before .before .before .before .before .before .args) .ranking)) 0 (readers ((c .before .before .before .before .before .before .before .before .before .before .before .before .before .before .before .args) .stream .now) (ranks ((c .before .before .before .before .before .before .before .before .before .before .before .before .before .before .before .args) .ranking)) ((c .before .before .before .before .before .before .before .before .before .before .before .before .before .before .before .args) .g)) (hold 0 0 none) (opt check (45 ∷ []) any) again) f1 (looked _ _ 0 ((c .before .before .before .before .before .before .before .before .before .before .d) .given .0 .1 .0) _ (look-in ((c .before .before .before .before .before .before .before .before .before .before .before .before .before .before .before .args) .stream .now) (ranks ((c .before .before .before .before .before .before .before .before .before .before .before .before .before .before .before .args) .ranking)) 0 (readers ((c .before .before .before .before .before .before .before .before .before .before .before .before .before .before .before .args) .stream .now) (ranks ((c .before .before .before .before .before .before .before .before .before .before .before .before .before .before .before .args) .ranking)) ((c .before .before .before .before .before .before .before .before .before .before .before .before .before .before .before .args) .g)) (hold 0 0 none) again ((c .before .before .before .before .before .before .before .before .before .before .d) .given .0 .1 .0) (59 ∷ 4 ∷ 45 ∷ 2 ∷ 3 ∷ 20 ∷ []) empty (explist 1) (sym ((c .before .before .before .before .before .before .before .before .look-ahead) .ensures) ∙ (c .before .before .before .before .before .before .t) .given .1) (among (59 ∷ 4 ∷ 45 ∷ 2 ∷ 3 ∷ 20 ∷ []) q)) p (f1 .at) (f1 .room)) (omega arith) ((c .before .before .close-return5) .result) ((c .before .before .close-return5) .ensures ((c .before .before .before .before .before .before .before .before .before .before .before .before .before .before .before .args) .ranking) ((c .before .before .before .before .before .before .before .before .before .before .before .before .before .before .before .args) .g)) (omega arith) (λ e x y. (c .before .before .before .before .before .before .before .before .before .before .before .before .before .before .before .pre) .1 .1)
+    closed ((c .before .before .before .before .before .before .before .before .before .before .before .before .before .before .before .args) .used) 0 2 0 opening (((c .before .before .before .before .before .before .before .before .before .before .before .before .before .before .before .args) .c) .place) ((c .before .before .before .before .before .before .before .before .before .before .before .before .before .before .before .args) .line) (refl, refl, refl) ((c .before .before .close-return5) .last .1 .0) (read ((c .before .before .before .before .before .before .before .before .before .before .before .before .before .before .before .args) .stream .now) (ranks ((c .before .before .before .before .before .before .before .before .before .before .before .before .before .before .before .args) .ranking)) 0 (readers ((c .before .before .before .before .before .before .before .before .before .before .before .before .before .before .before .args) .stream .now) (ranks ((c .before .before .before .before .before .before .before .before .before .before .before .before .before .before .before .args) .ranking)) ((c .before .before .before .before .before .before .before .before .before .before .before .before .before .before .before .args) .g)) (hold 0 0 none) (on ahead (59 ∷ 4 ∷ 45 ∷ 2 ∷ 3 ∷ 20 ∷ []) empty (explist 1)) again) (read ((c .before .before .before .before .before .before .before .before .before .before .before .before .before .before .before .args) .stream .now) (ranks ((c .before .before .before .before .before .before .before .before .before .before .before .before .before .before .before .args) .ranking)) 0 (readers ((c .before .before .before .before .before .before .before .before .before .before .before .before .before .before .before .args) .stream .now) (ranks ((c .before .before .before .before .before .before .before .before .before .before .before .before .before .before .before .args) .ranking)) ((c .before .before .before .before .before .before .before .before .before .before .before .before .before .before .before .args) .g)) (hold 0 0 none) (opt check (45 ∷ []) any) again) f1 (looked _ _ 0 ((c .before .before .before .before .before .before .before .before .before .before .d) .given .0 .1 .0) _ (look-in ((c .before .before .before .before .before .before .before .before .before .before .before .before .before .before .before .args) .stream .now) (ranks ((c .before .before .before .before .before .before .before .before .before .before .before .before .before .before .before .args) .ranking)) 0 (readers ((c .before .before .before .before .before .before .before .before .before .before .before .before .before .before .before .args) .stream .now) (ranks ((c .before .before .before .before .before .before .before .before .before .before .before .before .before .before .before .args) .ranking)) ((c .before .before .before .before .before .before .before .before .before .before .before .before .before .before .before .args) .g)) (hold 0 0 none) again ((c .before .before .before .before .before .before .before .before .before .before .d) .given .0 .1 .0) (59 ∷ 4 ∷ 45 ∷ 2 ∷ 3 ∷ 20 ∷ []) empty (explist 1) (sym ((c .before .before .before .before .before .before .before .before .look-ahead) .ensures) ∙ (c .before .before .before .before .before .before .t) .given .1) (among (59 ∷ 4 ∷ 45 ∷ 2 ∷ 3 ∷ 20 ∷ []) q)) p p′ (f1 .at) (f1 .room)) (omega arith) ((c .before .before .close-return5) .result) ((c .before .before .close-return5) .ensures ((c .before .before .before .before .before .before .before .before .before .before .before .before .before .before .before .args) .ranking) ((c .before .before .before .before .before .before .before .before .before .before .before .before .before .before .before .args) .g)) (omega arith) (λ e x y. (c .before .before .before .before .before .before .before .before .before .before .before .before .before .before .before .pre) .1 .1)
 
 pub ret-same-length-6 : (t : ℕ) → ret-lts.Need-same-length-6 (
   expect-next-reads.Asked,
@@ -509,8 +521,9 @@ unfolding read retstat
 ret-returns-7 t c =
     let f1 = word-fine ((c .before .before .before .before .before .before .before .before .before .before .before .before .before .before .before .args) .stream .now) (ranks ((c .before .before .before .before .before .before .before .before .before .before .before .before .before .before .before .args) .ranking)) 0 (readers ((c .before .before .before .before .before .before .before .before .before .before .before .before .before .before .before .args) .stream .now) (ranks ((c .before .before .before .before .before .before .before .before .before .before .before .before .before .before .before .args) .ranking)) ((c .before .before .before .before .before .before .before .before .before .before .before .before .before .before .before .args) .g)) (hold 0 0 none) again ((c .before .before .before .before .before .before .before .before .before .before .before .before .before .before .before .args) .c) ((c .before .before .before .before .before .before .before .before .before .before .before .before .before .before .before .args) .nodes .now) (((c .before .before .before .before .before .before .before .before .before .before .before .before .before .before .before .args) .used) + 1) 0 (((c .before .before .before .before .before .before .before .before .before .before .before .before .before .before .before .pre) .1 .0) .formed) (omega (arith, ((c .before .before .before .before .before .before .before .before .before .before .before .before .before .before .before .pre) .1 .0) .room)) 17 refl refl ((sym ((c .before .before .before .before .before .before .before .before .before .before .before .before .expect-next) .ensures)) ∙ (c .before .before .before .before .before .before .before .before .before .before .d) .given .1) in
     let p = look-place ((c .before .before .before .before .before .before .before .before .before .before .before .before .before .before .before .args) .stream .now) ((c .before .before .before .before .before .before .before .before .before .before .d) .given .0 .1 .0) (sym ((c .before .before .before .before .before .before .before .before .look-ahead) .ensures) ∙ (c .before .before .before .before .before .before .t) .given .1) in
+    let p′ = look-note ((c .before .before .before .before .before .before .before .before .before .before .before .before .before .before .before .args) .stream .now) ((c .before .before .before .before .before .before .before .before .before .before .d) .given .0 .1 .0) (sym ((c .before .before .before .before .before .before .before .before .look-ahead) .ensures) ∙ (c .before .before .before .before .before .before .t) .given .1) in
     let q = (c .before .before .before .before .match3) .keys5 in
-    closed ((c .before .before .before .before .before .before .before .before .before .before .before .before .before .before .before .args) .used) 0 2 0 opening (((c .before .before .before .before .before .before .before .before .before .before .before .before .before .before .before .args) .c) .place) ((c .before .before .before .before .before .before .before .before .before .before .before .before .before .before .before .args) .line) ((c .before .before .close-return6) .last .1 .0) (read ((c .before .before .before .before .before .before .before .before .before .before .before .before .before .before .before .args) .stream .now) (ranks ((c .before .before .before .before .before .before .before .before .before .before .before .before .before .before .before .args) .ranking)) 0 (readers ((c .before .before .before .before .before .before .before .before .before .before .before .before .before .before .before .args) .stream .now) (ranks ((c .before .before .before .before .before .before .before .before .before .before .before .before .before .before .before .args) .ranking)) ((c .before .before .before .before .before .before .before .before .before .before .before .before .before .before .before .args) .g)) (hold 0 0 none) (on ahead (59 ∷ 4 ∷ 45 ∷ 2 ∷ 3 ∷ 20 ∷ []) empty (explist 1)) again) (read ((c .before .before .before .before .before .before .before .before .before .before .before .before .before .before .before .args) .stream .now) (ranks ((c .before .before .before .before .before .before .before .before .before .before .before .before .before .before .before .args) .ranking)) 0 (readers ((c .before .before .before .before .before .before .before .before .before .before .before .before .before .before .before .args) .stream .now) (ranks ((c .before .before .before .before .before .before .before .before .before .before .before .before .before .before .before .args) .ranking)) ((c .before .before .before .before .before .before .before .before .before .before .before .before .before .before .before .args) .g)) (hold 0 0 none) (opt check (45 ∷ []) any) again) f1 (looked _ _ 0 ((c .before .before .before .before .before .before .before .before .before .before .d) .given .0 .1 .0) _ (look-in ((c .before .before .before .before .before .before .before .before .before .before .before .before .before .before .before .args) .stream .now) (ranks ((c .before .before .before .before .before .before .before .before .before .before .before .before .before .before .before .args) .ranking)) 0 (readers ((c .before .before .before .before .before .before .before .before .before .before .before .before .before .before .before .args) .stream .now) (ranks ((c .before .before .before .before .before .before .before .before .before .before .before .before .before .before .before .args) .ranking)) ((c .before .before .before .before .before .before .before .before .before .before .before .before .before .before .before .args) .g)) (hold 0 0 none) again ((c .before .before .before .before .before .before .before .before .before .before .d) .given .0 .1 .0) (59 ∷ 4 ∷ 45 ∷ 2 ∷ 3 ∷ 20 ∷ []) empty (explist 1) (sym ((c .before .before .before .before .before .before .before .before .look-ahead) .ensures) ∙ (c .before .before .before .before .before .before .t) .given .1) (among (59 ∷ 4 ∷ 45 ∷ 2 ∷ 3 ∷ 20 ∷ []) q)) p (f1 .at) (f1 .room)) (omega arith) ((c .before .before .close-return6) .result) ((c .before .before .close-return6) .ensures ((c .before .before .before .before .before .before .before .before .before .before .before .before .before .before .before .args) .ranking) ((c .before .before .before .before .before .before .before .before .before .before .before .before .before .before .before .args) .g)) (omega arith) (λ e x y. (c .before .before .before .before .before .before .before .before .before .before .before .before .before .before .before .pre) .1 .1)
+    closed ((c .before .before .before .before .before .before .before .before .before .before .before .before .before .before .before .args) .used) 0 2 0 opening (((c .before .before .before .before .before .before .before .before .before .before .before .before .before .before .before .args) .c) .place) ((c .before .before .before .before .before .before .before .before .before .before .before .before .before .before .before .args) .line) (refl, refl, refl) ((c .before .before .close-return6) .last .1 .0) (read ((c .before .before .before .before .before .before .before .before .before .before .before .before .before .before .before .args) .stream .now) (ranks ((c .before .before .before .before .before .before .before .before .before .before .before .before .before .before .before .args) .ranking)) 0 (readers ((c .before .before .before .before .before .before .before .before .before .before .before .before .before .before .before .args) .stream .now) (ranks ((c .before .before .before .before .before .before .before .before .before .before .before .before .before .before .before .args) .ranking)) ((c .before .before .before .before .before .before .before .before .before .before .before .before .before .before .before .args) .g)) (hold 0 0 none) (on ahead (59 ∷ 4 ∷ 45 ∷ 2 ∷ 3 ∷ 20 ∷ []) empty (explist 1)) again) (read ((c .before .before .before .before .before .before .before .before .before .before .before .before .before .before .before .args) .stream .now) (ranks ((c .before .before .before .before .before .before .before .before .before .before .before .before .before .before .before .args) .ranking)) 0 (readers ((c .before .before .before .before .before .before .before .before .before .before .before .before .before .before .before .args) .stream .now) (ranks ((c .before .before .before .before .before .before .before .before .before .before .before .before .before .before .before .args) .ranking)) ((c .before .before .before .before .before .before .before .before .before .before .before .before .before .before .before .args) .g)) (hold 0 0 none) (opt check (45 ∷ []) any) again) f1 (looked _ _ 0 ((c .before .before .before .before .before .before .before .before .before .before .d) .given .0 .1 .0) _ (look-in ((c .before .before .before .before .before .before .before .before .before .before .before .before .before .before .before .args) .stream .now) (ranks ((c .before .before .before .before .before .before .before .before .before .before .before .before .before .before .before .args) .ranking)) 0 (readers ((c .before .before .before .before .before .before .before .before .before .before .before .before .before .before .before .args) .stream .now) (ranks ((c .before .before .before .before .before .before .before .before .before .before .before .before .before .before .before .args) .ranking)) ((c .before .before .before .before .before .before .before .before .before .before .before .before .before .before .before .args) .g)) (hold 0 0 none) again ((c .before .before .before .before .before .before .before .before .before .before .d) .given .0 .1 .0) (59 ∷ 4 ∷ 45 ∷ 2 ∷ 3 ∷ 20 ∷ []) empty (explist 1) (sym ((c .before .before .before .before .before .before .before .before .look-ahead) .ensures) ∙ (c .before .before .before .before .before .before .t) .given .1) (among (59 ∷ 4 ∷ 45 ∷ 2 ∷ 3 ∷ 20 ∷ []) q)) p p′ (f1 .at) (f1 .room)) (omega arith) ((c .before .before .close-return6) .result) ((c .before .before .close-return6) .ensures ((c .before .before .before .before .before .before .before .before .before .before .before .before .before .before .before .args) .ranking) ((c .before .before .before .before .before .before .before .before .before .before .before .before .before .before .before .args) .g)) (omega arith) (λ e x y. (c .before .before .before .before .before .before .before .before .before .before .before .before .before .before .before .pre) .1 .1)
 
 pub ret-same-length-7 : (t : ℕ) → ret-lts.Need-same-length-7 (
   expect-next-reads.Asked,
@@ -538,6 +551,7 @@ unfolding read retstat
 ret-returns-8 t c =
     let f1 = word-fine ((c .before .before .before .before .before .before .before .before .before .before .before .before .before .before .before .before .before .before .args) .stream .now) (ranks ((c .before .before .before .before .before .before .before .before .before .before .before .before .before .before .before .before .before .before .args) .ranking)) 0 (readers ((c .before .before .before .before .before .before .before .before .before .before .before .before .before .before .before .before .before .before .args) .stream .now) (ranks ((c .before .before .before .before .before .before .before .before .before .before .before .before .before .before .before .before .before .before .args) .ranking)) ((c .before .before .before .before .before .before .before .before .before .before .before .before .before .before .before .before .before .before .args) .g)) (hold 0 0 none) again ((c .before .before .before .before .before .before .before .before .before .before .before .before .before .before .before .before .before .before .args) .c) ((c .before .before .before .before .before .before .before .before .before .before .before .before .before .before .before .before .before .before .args) .nodes .now) (((c .before .before .before .before .before .before .before .before .before .before .before .before .before .before .before .before .before .before .args) .used) + 1) 0 (((c .before .before .before .before .before .before .before .before .before .before .before .before .before .before .before .before .before .before .pre) .1 .0) .formed) (omega (arith, ((c .before .before .before .before .before .before .before .before .before .before .before .before .before .before .before .before .before .before .pre) .1 .0) .room)) 17 refl refl ((sym ((c .before .before .before .before .before .before .before .before .before .before .before .before .before .before .before .expect-next) .ensures)) ∙ (c .before .before .before .before .before .before .before .before .before .before .before .before .before .d) .given .1) in
     let p = look-place ((c .before .before .before .before .before .before .before .before .before .before .before .before .before .before .before .before .before .before .args) .stream .now) ((c .before .before .before .before .before .before .before .before .before .before .before .before .before .d) .given .0 .1 .0) (sym ((c .before .before .before .before .before .before .before .before .before .before .before .look-ahead) .ensures) ∙ (c .before .before .before .before .before .before .before .before .before .t) .given .1) in
+    let p′ = look-note ((c .before .before .before .before .before .before .before .before .before .before .before .before .before .before .before .before .before .before .args) .stream .now) ((c .before .before .before .before .before .before .before .before .before .before .before .before .before .d) .given .0 .1 .0) (sym ((c .before .before .before .before .before .before .before .before .before .before .before .look-ahead) .ensures) ∙ (c .before .before .before .before .before .before .before .before .before .t) .given .1) in
     let o = look-out ((c .before .before .before .before .before .before .before .before .before .before .before .before .before .before .before .before .before .before .args) .stream .now) (ranks ((c .before .before .before .before .before .before .before .before .before .before .before .before .before .before .before .before .before .before .args) .ranking)) 0 (readers ((c .before .before .before .before .before .before .before .before .before .before .before .before .before .before .before .before .before .before .args) .stream .now) (ranks ((c .before .before .before .before .before .before .before .before .before .before .before .before .before .before .before .before .before .before .args) .ranking)) ((c .before .before .before .before .before .before .before .before .before .before .before .before .before .before .before .before .before .before .args) .g)) (hold 0 0 none) again ((c .before .before .before .before .before .before .before .before .before .before .before .before .before .d) .given .0 .1 .0) (59 ∷ 4 ∷ 45 ∷ 2 ∷ 3 ∷ 20 ∷ []) empty (explist 1) (sym ((c .before .before .before .before .before .before .before .before .before .before .before .look-ahead) .ensures) ∙ (c .before .before .before .before .before .before .before .before .before .t) .given .1) (nor (((c .before .before .before .before .before .before .before .before .before .t) .given .0 .0) .kind) (59 ∷ 4 ∷ 45 ∷ 2 ∷ 3 ∷ 20 ∷ []) (saw-real ((c .before .before .before .before .before .before .before .before .before .before .before .before .before .before .before .before .before .before .args) .stream .now) ((c .before .before .before .before .before .before .before .before .before .before .before .before .before .d) .given .0 .1 .0) (sym ((c .before .before .before .before .before .before .before .before .before .before .before .look-ahead) .ensures) ∙ (c .before .before .before .before .before .before .before .before .before .t) .given .1)) ((c .before .before .before .before .before .before .before .match3) .rest .0 .0 .0 .0 .1) ((c .before .before .before .before .before .before .before .match3) .rest .0 .0 .0 .1) ((c .before .before .before .before .before .before .before .match3) .rest .0 .0 .1) ((c .before .before .before .before .before .before .before .match3) .rest .0 .1) ((c .before .before .before .before .before .before .before .match3) .rest .1)) in
     ap (wrap ((c .before .before .before .before .before .before .before .before .before .before .before .before .before .before .before .before .before .before .args) .stream .now) 2 opening (((c .before .before .before .before .before .before .before .before .before .before .before .before .before .before .before .before .before .before .args) .c) .place)) (past _ f1 (stop _ (o ∙ rw ((c .before .e3) .given .1) at ((c .before .before .before .before .before .exps) .ensures))))
 
@@ -567,6 +581,7 @@ unfolding read retstat
 ret-returns-9 t c =
     let f1 = word-fine ((c .before .before .before .before .before .before .before .before .before .before .before .before .before .before .before .before .before .before .before .before .before .before .args) .stream .now) (ranks ((c .before .before .before .before .before .before .before .before .before .before .before .before .before .before .before .before .before .before .before .before .before .before .args) .ranking)) 0 (readers ((c .before .before .before .before .before .before .before .before .before .before .before .before .before .before .before .before .before .before .before .before .before .before .args) .stream .now) (ranks ((c .before .before .before .before .before .before .before .before .before .before .before .before .before .before .before .before .before .before .before .before .before .before .args) .ranking)) ((c .before .before .before .before .before .before .before .before .before .before .before .before .before .before .before .before .before .before .before .before .before .before .args) .g)) (hold 0 0 none) again ((c .before .before .before .before .before .before .before .before .before .before .before .before .before .before .before .before .before .before .before .before .before .before .args) .c) ((c .before .before .before .before .before .before .before .before .before .before .before .before .before .before .before .before .before .before .before .before .before .before .args) .nodes .now) (((c .before .before .before .before .before .before .before .before .before .before .before .before .before .before .before .before .before .before .before .before .before .before .args) .used) + 1) 0 (((c .before .before .before .before .before .before .before .before .before .before .before .before .before .before .before .before .before .before .before .before .before .before .pre) .1 .0) .formed) (omega (arith, ((c .before .before .before .before .before .before .before .before .before .before .before .before .before .before .before .before .before .before .before .before .before .before .pre) .1 .0) .room)) 17 refl refl ((sym ((c .before .before .before .before .before .before .before .before .before .before .before .before .before .before .before .before .before .before .before .expect-next) .ensures)) ∙ (c .before .before .before .before .before .before .before .before .before .before .before .before .before .before .before .before .before .d) .given .1) in
     let p = look-place ((c .before .before .before .before .before .before .before .before .before .before .before .before .before .before .before .before .before .before .before .before .before .before .args) .stream .now) ((c .before .before .before .before .before .before .before .before .before .before .before .before .before .before .before .before .before .d) .given .0 .1 .0) (sym ((c .before .before .before .before .before .before .before .before .before .before .before .before .before .before .before .look-ahead) .ensures) ∙ (c .before .before .before .before .before .before .before .before .before .before .before .before .before .t) .given .1) in
+    let p′ = look-note ((c .before .before .before .before .before .before .before .before .before .before .before .before .before .before .before .before .before .before .before .before .before .before .args) .stream .now) ((c .before .before .before .before .before .before .before .before .before .before .before .before .before .before .before .before .before .d) .given .0 .1 .0) (sym ((c .before .before .before .before .before .before .before .before .before .before .before .before .before .before .before .look-ahead) .ensures) ∙ (c .before .before .before .before .before .before .before .before .before .before .before .before .before .t) .given .1) in
     let o = look-out ((c .before .before .before .before .before .before .before .before .before .before .before .before .before .before .before .before .before .before .before .before .before .before .args) .stream .now) (ranks ((c .before .before .before .before .before .before .before .before .before .before .before .before .before .before .before .before .before .before .before .before .before .before .args) .ranking)) 0 (readers ((c .before .before .before .before .before .before .before .before .before .before .before .before .before .before .before .before .before .before .before .before .before .before .args) .stream .now) (ranks ((c .before .before .before .before .before .before .before .before .before .before .before .before .before .before .before .before .before .before .before .before .before .before .args) .ranking)) ((c .before .before .before .before .before .before .before .before .before .before .before .before .before .before .before .before .before .before .before .before .before .before .args) .g)) (hold 0 0 none) again ((c .before .before .before .before .before .before .before .before .before .before .before .before .before .before .before .before .before .d) .given .0 .1 .0) (59 ∷ 4 ∷ 45 ∷ 2 ∷ 3 ∷ 20 ∷ []) empty (explist 1) (sym ((c .before .before .before .before .before .before .before .before .before .before .before .before .before .before .before .look-ahead) .ensures) ∙ (c .before .before .before .before .before .before .before .before .before .before .before .before .before .t) .given .1) (nor (((c .before .before .before .before .before .before .before .before .before .before .before .before .before .t) .given .0 .0) .kind) (59 ∷ 4 ∷ 45 ∷ 2 ∷ 3 ∷ 20 ∷ []) (saw-real ((c .before .before .before .before .before .before .before .before .before .before .before .before .before .before .before .before .before .before .before .before .before .before .args) .stream .now) ((c .before .before .before .before .before .before .before .before .before .before .before .before .before .before .before .before .before .d) .given .0 .1 .0) (sym ((c .before .before .before .before .before .before .before .before .before .before .before .before .before .before .before .look-ahead) .ensures) ∙ (c .before .before .before .before .before .before .before .before .before .before .before .before .before .t) .given .1)) ((c .before .before .before .before .before .before .before .before .before .before .before .match3) .rest .0 .0 .0 .0 .1) ((c .before .before .before .before .before .before .before .before .before .before .before .match3) .rest .0 .0 .0 .1) ((c .before .before .before .before .before .before .before .before .before .before .before .match3) .rest .0 .0 .1) ((c .before .before .before .before .before .before .before .before .before .before .before .match3) .rest .0 .1) ((c .before .before .before .before .before .before .before .before .before .before .before .match3) .rest .1)) in
     let f2 = rw ((c .before .before .before .before .before .f) .given .1) at ((c .before .before .before .before .before .before .before .before .before .exps) .ensures) in
-    closed ((c .before .before .before .before .before .before .before .before .before .before .before .before .before .before .before .before .before .before .before .before .before .before .args) .used) 0 2 ((c .before .before .before .before .before .f) .given .0 .1 .1 .0) opening (((c .before .before .before .before .before .before .before .before .before .before .before .before .before .before .before .before .before .before .before .before .before .before .args) .c) .place) ((c .before .before .before .before .before .before .before .before .before .before .before .before .before .before .before .before .before .before .before .before .before .before .args) .line) ((c .before .before .close-return7) .last .1 .0) (read ((c .before .before .before .before .before .before .before .before .before .before .before .before .before .before .before .before .before .before .before .before .before .before .args) .stream .now) (ranks ((c .before .before .before .before .before .before .before .before .before .before .before .before .before .before .before .before .before .before .before .before .before .before .args) .ranking)) 0 (readers ((c .before .before .before .before .before .before .before .before .before .before .before .before .before .before .before .before .before .before .before .before .before .before .args) .stream .now) (ranks ((c .before .before .before .before .before .before .before .before .before .before .before .before .before .before .before .before .before .before .before .before .before .before .args) .ranking)) ((c .before .before .before .before .before .before .before .before .before .before .before .before .before .before .before .before .before .before .before .before .before .before .args) .g)) (hold 0 0 none) (on ahead (59 ∷ 4 ∷ 45 ∷ 2 ∷ 3 ∷ 20 ∷ []) empty (explist 1)) again) (read ((c .before .before .before .before .before .before .before .before .before .before .before .before .before .before .before .before .before .before .before .before .before .before .args) .stream .now) (ranks ((c .before .before .before .before .before .before .before .before .before .before .before .before .before .before .before .before .before .before .before .before .before .before .args) .ranking)) 0 (readers ((c .before .before .before .before .before .before .before .before .before .before .before .before .before .before .before .before .before .before .before .before .before .before .args) .stream .now) (ranks ((c .before .before .before .before .before .before .before .before .before .before .before .before .before .before .before .before .before .before .before .before .before .before .args) .ranking)) ((c .before .before .before .before .before .before .before .before .before .before .before .before .before .before .before .before .before .before .before .before .before .before .args) .g)) (hold 0 0 none) (opt check (45 ∷ []) any) again) f1 (alter o (f2 .0)) (omega (arith, p)) ((c .before .before .close-return7) .result) ((c .before .before .close-return7) .ensures ((c .before .before .before .before .before .before .before .before .before .before .before .before .before .before .before .before .before .before .before .before .before .before .args) .ranking) ((c .before .before .before .before .before .before .before .before .before .before .before .before .before .before .before .before .before .before .before .before .before .before .args) .g)) (omega arith) (λ e x y. (c .before .before .before .before .before .before .before .before .before .before .before .before .before .before .before .before .before .before .before .before .before .before .pre) .1 .1)
+    closed ((c .before .before .before .before .before .before .before .before .before .before .before .before .before .before .before .before .before .before .before .before .before .before .args) .used) 0 2 ((c .before .before .before .before .before .f) .given .0 .1 .1 .0) opening (((c .before .before .before .before .before .before .before .before .before .before .before .before .before .before .before .before .before .before .before .before .before .before .args) .c) .place) ((c .before .before .before .before .before .before .before .before .before .before .before .before .before .before .before .before .before .before .before .before .before .before .args) .line) (refl, refl, refl) ((c .before .before .close-return7) .last .1 .0) (read ((c .before .before .before .before .before .before .before .before .before .before .before .before .before .before .before .before .before .before .before .before .before .before .args) .stream .now) (ranks ((c .before .before .before .before .before .before .before .before .before .before .before .before .before .before .before .before .before .before .before .before .before .before .args) .ranking)) 0 (readers ((c .before .before .before .before .before .before .before .before .before .before .before .before .before .before .before .before .before .before .before .before .before .before .args) .stream .now) (ranks ((c .before .before .before .before .before .before .before .before .before .before .before .before .before .before .before .before .before .before .before .before .before .before .args) .ranking)) ((c .before .before .before .before .before .before .before .before .before .before .before .before .before .before .before .before .before .before .before .before .before .before .args) .g)) (hold 0 0 none) (on ahead (59 ∷ 4 ∷ 45 ∷ 2 ∷ 3 ∷ 20 ∷ []) empty (explist 1)) again) (read ((c .before .before .before .before .before .before .before .before .before .before .before .before .before .before .before .before .before .before .before .before .before .before .args) .stream .now) (ranks ((c .before .before .before .before .before .before .before .before .before .before .before .before .before .before .before .before .before .before .before .before .before .before .args) .ranking)) 0 (readers ((c .before .before .before .before .before .before .before .before .before .before .before .before .before .before .before .before .before .before .before .before .before .before .args) .stream .now) (ranks ((c .before .before .before .before .before .before .before .before .before .before .before .before .before .before .before .before .before .before .before .before .before .before .args) .ranking)) ((c .before .before .before .before .before .before .before .before .before .before .before .before .before .before .before .before .before .before .before .before .before .before .args) .g)) (hold 0 0 none) (opt check (45 ∷ []) any) again) f1 (alter o (renoted p′ (f2 .0))) (omega (arith, p)) ((c .before .before .close-return7) .result) ((c .before .before .close-return7) .ensures ((c .before .before .before .before .before .before .before .before .before .before .before .before .before .before .before .before .before .before .before .before .before .before .args) .ranking) ((c .before .before .before .before .before .before .before .before .before .before .before .before .before .before .before .before .before .before .before .before .before .before .args) .g)) (omega arith) (λ e x y. (c .before .before .before .before .before .before .before .before .before .before .before .before .before .before .before .before .before .before .before .before .before .before .pre) .1 .1)

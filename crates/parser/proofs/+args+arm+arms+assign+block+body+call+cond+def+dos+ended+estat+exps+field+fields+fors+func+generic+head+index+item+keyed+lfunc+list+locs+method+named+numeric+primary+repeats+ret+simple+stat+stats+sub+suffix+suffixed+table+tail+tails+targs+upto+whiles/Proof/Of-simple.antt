@@ -11,7 +11,7 @@ use Rattle.stream.proofs.reader.get_next.Reads as get-next-reads
 use Rattle.stream.proofs.reader.take_next.Reads as take-next-reads
 use Rattle.parser.proofs.+args+arm+arms+assign+block+body+call+cond+def+dos+ended+estat+exps+field+fields+fors+func+generic+head+index+item+keyed+lfunc+list+locs+method+named+numeric+primary+repeats+ret+simple+stat+stats+sub+suffix+suffixed+table+tail+tails+targs+upto+whiles.{}
 use Rattle.parser.proofs.+args+arm+arms+assign+block+body+call+cond+def+dos+ended+estat+exps+field+fields+fors+func+generic+head+index+item+keyed+lfunc+list+locs+method+named+numeric+primary+repeats+ret+simple+stat+stats+sub+suffix+suffixed+table+tail+tails+targs+upto+whiles.Proof.Levels.{def-below, simple-at, suffixed-below, table-below}
-use mathlib.Core.Path.{sym, _∙_}
+use mathlib.Core.Path.{refl, sym, _∙_}
 use mathlib.Core.List.{[], _∷_}
 use Prim.Native.Nat.{ℕ, _+_, _-_}
 use native.Mathlib.Omega.{arith}
@@ -21,8 +21,8 @@ use Rattle.grammar.specs.Reading.{read, hold, last}
 use Rattle.grammar.specs.Levels.{readers}
 use Rattle.grammar.specs.Term.{any, leaf, _⨾_}
 use Rattle.parser.specs.Contract.{again}
-use Rattle.parser.proofs.Steps.{took-next, get-place}
-use Rattle.parser.proofs.Kit.{kept, lower, alter, moved, stop, onward}
+use Rattle.parser.proofs.Steps.{took-next, get-place, get-note}
+use Rattle.parser.proofs.Kit.{kept, lower, alter, renoted, still, moved, stop, onward}
 use Rattle.parser.proofs.Tokens.{ready-after, any-fail, any-fine}
 use Rattle.parser.proofs.Looks.{by-none, by-kind, by-others}
 use Rattle.grammar.specs.Productions.{funcbody, table as table′, suffixed as suffixed′, simple as simple′}
@@ -89,7 +89,7 @@ pub simple-leaf-requires : (t : ℕ) → simple-lts.Need-leaf-requires (
   suffixed-below t,
   suffixed.Post,
 ) (simple-at t) simple.Post
-simple-leaf-requires t c κs = record { formed = ((c .before .before .before .before .before .before .before .before .pre) .1) .formed; at = omega (arith, ((c .before .before .before .before .before .before .before .before .pre) .1) .at, (get-place ((c .before .before .before .before .before .before .before .before .args) .stream .now) ((c .before .before .before .before .before .before .before .before .args) .c) (sym ((c .before .before .before .before .before .get-next) .ensures) ∙ (c .before .before .before .t) .given .1))); room = omega (arith, ((c .before .before .before .before .before .before .before .before .pre) .1) .room, (get-place ((c .before .before .before .before .before .before .before .before .args) .stream .now) ((c .before .before .before .before .before .before .before .before .args) .c) (sym ((c .before .before .before .before .before .get-next) .ensures) ∙ (c .before .before .before .t) .given .1))) }
+simple-leaf-requires t c κs = (record { formed = ((c .before .before .before .before .before .before .before .before .pre) .1) .formed; at = omega (arith, ((c .before .before .before .before .before .before .before .before .pre) .1) .at, (get-place ((c .before .before .before .before .before .before .before .before .args) .stream .now) ((c .before .before .before .before .before .before .before .before .args) .c) (sym ((c .before .before .before .before .before .get-next) .ensures) ∙ (c .before .before .before .t) .given .1))); room = omega (arith, ((c .before .before .before .before .before .before .before .before .pre) .1) .room, (get-place ((c .before .before .before .before .before .before .before .before .args) .stream .now) ((c .before .before .before .before .before .before .before .before .args) .c) (sym ((c .before .before .before .before .before .get-next) .ensures) ∙ (c .before .before .before .t) .given .1))) }, (refl, refl, refl))
 
 pub simple-leaf-requires-2 : (t : ℕ) → simple-lts.Need-leaf-requires-2 (
   get-next-reads.Asked,
@@ -105,7 +105,7 @@ pub simple-leaf-requires-2 : (t : ℕ) → simple-lts.Need-leaf-requires-2 (
   suffixed-below t,
   suffixed.Post,
 ) (simple-at t) simple.Post
-simple-leaf-requires-2 t c κs = record { formed = ((c .before .before .before .before .before .before .before .before .pre) .1) .formed; at = omega (arith, ((c .before .before .before .before .before .before .before .before .pre) .1) .at, (get-place ((c .before .before .before .before .before .before .before .before .args) .stream .now) ((c .before .before .before .before .before .before .before .before .args) .c) (sym ((c .before .before .before .before .before .get-next) .ensures) ∙ (c .before .before .before .t) .given .1))); room = omega (arith, ((c .before .before .before .before .before .before .before .before .pre) .1) .room, (get-place ((c .before .before .before .before .before .before .before .before .args) .stream .now) ((c .before .before .before .before .before .before .before .before .args) .c) (sym ((c .before .before .before .before .before .get-next) .ensures) ∙ (c .before .before .before .t) .given .1))) }
+simple-leaf-requires-2 t c κs = (record { formed = ((c .before .before .before .before .before .before .before .before .pre) .1) .formed; at = omega (arith, ((c .before .before .before .before .before .before .before .before .pre) .1) .at, (get-place ((c .before .before .before .before .before .before .before .before .args) .stream .now) ((c .before .before .before .before .before .before .before .before .args) .c) (sym ((c .before .before .before .before .before .get-next) .ensures) ∙ (c .before .before .before .t) .given .1))); room = omega (arith, ((c .before .before .before .before .before .before .before .before .pre) .1) .room, (get-place ((c .before .before .before .before .before .before .before .before .args) .stream .now) ((c .before .before .before .before .before .before .before .before .args) .c) (sym ((c .before .before .before .before .before .get-next) .ensures) ∙ (c .before .before .before .t) .given .1))) }, (refl, refl, refl))
 
 pub simple-leaf-requires-3 : (t : ℕ) → simple-lts.Need-leaf-requires-3 (
   get-next-reads.Asked,
@@ -121,7 +121,7 @@ pub simple-leaf-requires-3 : (t : ℕ) → simple-lts.Need-leaf-requires-3 (
   suffixed-below t,
   suffixed.Post,
 ) (simple-at t) simple.Post
-simple-leaf-requires-3 t c κs = record { formed = ((c .before .before .before .before .before .before .before .before .pre) .1) .formed; at = omega (arith, ((c .before .before .before .before .before .before .before .before .pre) .1) .at, (get-place ((c .before .before .before .before .before .before .before .before .args) .stream .now) ((c .before .before .before .before .before .before .before .before .args) .c) (sym ((c .before .before .before .before .before .get-next) .ensures) ∙ (c .before .before .before .t) .given .1))); room = omega (arith, ((c .before .before .before .before .before .before .before .before .pre) .1) .room, (get-place ((c .before .before .before .before .before .before .before .before .args) .stream .now) ((c .before .before .before .before .before .before .before .before .args) .c) (sym ((c .before .before .before .before .before .get-next) .ensures) ∙ (c .before .before .before .t) .given .1))) }
+simple-leaf-requires-3 t c κs = (record { formed = ((c .before .before .before .before .before .before .before .before .pre) .1) .formed; at = omega (arith, ((c .before .before .before .before .before .before .before .before .pre) .1) .at, (get-place ((c .before .before .before .before .before .before .before .before .args) .stream .now) ((c .before .before .before .before .before .before .before .before .args) .c) (sym ((c .before .before .before .before .before .get-next) .ensures) ∙ (c .before .before .before .t) .given .1))); room = omega (arith, ((c .before .before .before .before .before .before .before .before .pre) .1) .room, (get-place ((c .before .before .before .before .before .before .before .before .args) .stream .now) ((c .before .before .before .before .before .before .before .before .args) .c) (sym ((c .before .before .before .before .before .get-next) .ensures) ∙ (c .before .before .before .t) .given .1))) }, (refl, refl, refl))
 
 pub simple-leaf-requires-4 : (t : ℕ) → simple-lts.Need-leaf-requires-4 (
   get-next-reads.Asked,
@@ -137,7 +137,7 @@ pub simple-leaf-requires-4 : (t : ℕ) → simple-lts.Need-leaf-requires-4 (
   suffixed-below t,
   suffixed.Post,
 ) (simple-at t) simple.Post
-simple-leaf-requires-4 t c κs = record { formed = ((c .before .before .before .before .before .before .before .before .pre) .1) .formed; at = omega (arith, ((c .before .before .before .before .before .before .before .before .pre) .1) .at, (get-place ((c .before .before .before .before .before .before .before .before .args) .stream .now) ((c .before .before .before .before .before .before .before .before .args) .c) (sym ((c .before .before .before .before .before .get-next) .ensures) ∙ (c .before .before .before .t) .given .1))); room = omega (arith, ((c .before .before .before .before .before .before .before .before .pre) .1) .room, (get-place ((c .before .before .before .before .before .before .before .before .args) .stream .now) ((c .before .before .before .before .before .before .before .before .args) .c) (sym ((c .before .before .before .before .before .get-next) .ensures) ∙ (c .before .before .before .t) .given .1))) }
+simple-leaf-requires-4 t c κs = (record { formed = ((c .before .before .before .before .before .before .before .before .pre) .1) .formed; at = omega (arith, ((c .before .before .before .before .before .before .before .before .pre) .1) .at, (get-place ((c .before .before .before .before .before .before .before .before .args) .stream .now) ((c .before .before .before .before .before .before .before .before .args) .c) (sym ((c .before .before .before .before .before .get-next) .ensures) ∙ (c .before .before .before .t) .given .1))); room = omega (arith, ((c .before .before .before .before .before .before .before .before .pre) .1) .room, (get-place ((c .before .before .before .before .before .before .before .before .args) .stream .now) ((c .before .before .before .before .before .before .before .before .args) .c) (sym ((c .before .before .before .before .before .get-next) .ensures) ∙ (c .before .before .before .t) .given .1))) }, (refl, refl, refl))
 
 pub simple-leaf-requires-5 : (t : ℕ) → simple-lts.Need-leaf-requires-5 (
   get-next-reads.Asked,
@@ -153,7 +153,7 @@ pub simple-leaf-requires-5 : (t : ℕ) → simple-lts.Need-leaf-requires-5 (
   suffixed-below t,
   suffixed.Post,
 ) (simple-at t) simple.Post
-simple-leaf-requires-5 t c κs = record { formed = ((c .before .before .before .before .before .before .before .before .pre) .1) .formed; at = omega (arith, ((c .before .before .before .before .before .before .before .before .pre) .1) .at, (get-place ((c .before .before .before .before .before .before .before .before .args) .stream .now) ((c .before .before .before .before .before .before .before .before .args) .c) (sym ((c .before .before .before .before .before .get-next) .ensures) ∙ (c .before .before .before .t) .given .1))); room = omega (arith, ((c .before .before .before .before .before .before .before .before .pre) .1) .room, (get-place ((c .before .before .before .before .before .before .before .before .args) .stream .now) ((c .before .before .before .before .before .before .before .before .args) .c) (sym ((c .before .before .before .before .before .get-next) .ensures) ∙ (c .before .before .before .t) .given .1))) }
+simple-leaf-requires-5 t c κs = (record { formed = ((c .before .before .before .before .before .before .before .before .pre) .1) .formed; at = omega (arith, ((c .before .before .before .before .before .before .before .before .pre) .1) .at, (get-place ((c .before .before .before .before .before .before .before .before .args) .stream .now) ((c .before .before .before .before .before .before .before .before .args) .c) (sym ((c .before .before .before .before .before .get-next) .ensures) ∙ (c .before .before .before .t) .given .1))); room = omega (arith, ((c .before .before .before .before .before .before .before .before .pre) .1) .room, (get-place ((c .before .before .before .before .before .before .before .before .args) .stream .now) ((c .before .before .before .before .before .before .before .before .args) .c) (sym ((c .before .before .before .before .before .get-next) .ensures) ∙ (c .before .before .before .t) .given .1))) }, (refl, refl, refl))
 
 pub simple-leaf-requires-6 : (t : ℕ) → simple-lts.Need-leaf-requires-6 (
   get-next-reads.Asked,
@@ -169,7 +169,7 @@ pub simple-leaf-requires-6 : (t : ℕ) → simple-lts.Need-leaf-requires-6 (
   suffixed-below t,
   suffixed.Post,
 ) (simple-at t) simple.Post
-simple-leaf-requires-6 t c κs = record { formed = ((c .before .before .before .before .before .before .before .before .pre) .1) .formed; at = omega (arith, ((c .before .before .before .before .before .before .before .before .pre) .1) .at, (get-place ((c .before .before .before .before .before .before .before .before .args) .stream .now) ((c .before .before .before .before .before .before .before .before .args) .c) (sym ((c .before .before .before .before .before .get-next) .ensures) ∙ (c .before .before .before .t) .given .1))); room = omega (arith, ((c .before .before .before .before .before .before .before .before .pre) .1) .room, (get-place ((c .before .before .before .before .before .before .before .before .args) .stream .now) ((c .before .before .before .before .before .before .before .before .args) .c) (sym ((c .before .before .before .before .before .get-next) .ensures) ∙ (c .before .before .before .t) .given .1))) }
+simple-leaf-requires-6 t c κs = (record { formed = ((c .before .before .before .before .before .before .before .before .pre) .1) .formed; at = omega (arith, ((c .before .before .before .before .before .before .before .before .pre) .1) .at, (get-place ((c .before .before .before .before .before .before .before .before .args) .stream .now) ((c .before .before .before .before .before .before .before .before .args) .c) (sym ((c .before .before .before .before .before .get-next) .ensures) ∙ (c .before .before .before .t) .given .1))); room = omega (arith, ((c .before .before .before .before .before .before .before .before .pre) .1) .room, (get-place ((c .before .before .before .before .before .before .before .before .args) .stream .now) ((c .before .before .before .before .before .before .before .before .args) .c) (sym ((c .before .before .before .before .before .get-next) .ensures) ∙ (c .before .before .before .t) .given .1))) }, (refl, refl, refl))
 
 pub simple-leaf-requires-7 : (t : ℕ) → simple-lts.Need-leaf-requires-7 (
   get-next-reads.Asked,
@@ -185,7 +185,7 @@ pub simple-leaf-requires-7 : (t : ℕ) → simple-lts.Need-leaf-requires-7 (
   suffixed-below t,
   suffixed.Post,
 ) (simple-at t) simple.Post
-simple-leaf-requires-7 t c κs = record { formed = ((c .before .before .before .before .before .before .before .before .pre) .1) .formed; at = omega (arith, ((c .before .before .before .before .before .before .before .before .pre) .1) .at, (get-place ((c .before .before .before .before .before .before .before .before .args) .stream .now) ((c .before .before .before .before .before .before .before .before .args) .c) (sym ((c .before .before .before .before .before .get-next) .ensures) ∙ (c .before .before .before .t) .given .1))); room = omega (arith, ((c .before .before .before .before .before .before .before .before .pre) .1) .room, (get-place ((c .before .before .before .before .before .before .before .before .args) .stream .now) ((c .before .before .before .before .before .before .before .before .args) .c) (sym ((c .before .before .before .before .before .get-next) .ensures) ∙ (c .before .before .before .t) .given .1))) }
+simple-leaf-requires-7 t c κs = (record { formed = ((c .before .before .before .before .before .before .before .before .pre) .1) .formed; at = omega (arith, ((c .before .before .before .before .before .before .before .before .pre) .1) .at, (get-place ((c .before .before .before .before .before .before .before .before .args) .stream .now) ((c .before .before .before .before .before .before .before .before .args) .c) (sym ((c .before .before .before .before .before .get-next) .ensures) ∙ (c .before .before .before .t) .given .1))); room = omega (arith, ((c .before .before .before .before .before .before .before .before .pre) .1) .room, (get-place ((c .before .before .before .before .before .before .before .before .args) .stream .now) ((c .before .before .before .before .before .before .before .before .args) .c) (sym ((c .before .before .before .before .before .get-next) .ensures) ∙ (c .before .before .before .t) .given .1))) }, (refl, refl, refl))
 
 pub simple-table-requires : (t : ℕ) → simple-lts.Need-table-requires (
   get-next-reads.Asked,
@@ -363,7 +363,7 @@ pub simple-returns-2 : (t : ℕ) → simple-lts.Need-returns-2 (
   suffixed.Post,
 ) (simple-at t) simple.Post
 unfolding simple′
-simple-returns-2 t c = moved ((c .before .before .before .before .before .before .before .before .before .before .before .args) .stream .now) ((c .before .before .before .before .before .before .before .before .before .before .before .args) .used) 0 ((c .before .before .before .before .before .before .before .before .before .before .before .args) .nodes .now) ((c .before .before .leaf) .last .1 .0) ((c .before .before .leaf) .result) (by-kind ((c .before .before .before .before .before .before .before .before .before .before .before .args) .stream .now) (ranks ((c .before .before .before .before .before .before .before .before .before .before .before .args) .ranking)) 0 (readers ((c .before .before .before .before .before .before .before .before .before .before .before .args) .stream .now) (ranks ((c .before .before .before .before .before .before .before .before .before .before .before .args) .ranking)) ((c .before .before .before .before .before .before .before .before .before .before .before .args) .g)) (hold 0 0 none) again ((c .before .before .before .before .before .before .before .before .before .before .before .args) .c) (56, any ⨾ leaf 21) ((55, any ⨾ leaf 20) ∷ (57, any ⨾ leaf 22) ∷ (12, any ⨾ leaf 23) ∷ (19, any ⨾ leaf 24) ∷ (5, any ⨾ leaf 25) ∷ (36, any ⨾ leaf 26) ∷ (53, table′) ∷ (7, any ⨾ funcbody) ∷ []) suffixed′ (sym ((c .before .before .before .before .before .before .before .before .get-next) .ensures) ∙ (c .before .before .before .before .before .before .t) .given .1) ((c .before .before .before .before .match2) .keys1)) (omega (arith, (get-place ((c .before .before .before .before .before .before .before .before .before .before .before .args) .stream .now) ((c .before .before .before .before .before .before .before .before .before .before .before .args) .c) (sym ((c .before .before .before .before .before .before .before .before .get-next) .ensures) ∙ (c .before .before .before .before .before .before .t) .given .1)))) ((c .before .before .leaf) .ensures ((c .before .before .before .before .before .before .before .before .before .before .before .args) .ranking) ((c .before .before .before .before .before .before .before .before .before .before .before .args) .g))
+simple-returns-2 t c = moved ((c .before .before .before .before .before .before .before .before .before .before .before .args) .stream .now) (get-note ((c .before .before .before .before .before .before .before .before .before .before .before .args) .stream .now) ((c .before .before .before .before .before .before .before .before .before .before .before .args) .c) (sym ((c .before .before .before .before .before .before .before .before .get-next) .ensures) ∙ (c .before .before .before .before .before .before .t) .given .1)) ((c .before .before .before .before .before .before .before .before .before .before .before .args) .used) 0 ((c .before .before .before .before .before .before .before .before .before .before .before .args) .nodes .now) ((c .before .before .leaf) .last .1 .0) ((c .before .before .leaf) .result) (by-kind ((c .before .before .before .before .before .before .before .before .before .before .before .args) .stream .now) (ranks ((c .before .before .before .before .before .before .before .before .before .before .before .args) .ranking)) 0 (readers ((c .before .before .before .before .before .before .before .before .before .before .before .args) .stream .now) (ranks ((c .before .before .before .before .before .before .before .before .before .before .before .args) .ranking)) ((c .before .before .before .before .before .before .before .before .before .before .before .args) .g)) (hold 0 0 none) again ((c .before .before .before .before .before .before .before .before .before .before .before .args) .c) (56, any ⨾ leaf 21) ((55, any ⨾ leaf 20) ∷ (57, any ⨾ leaf 22) ∷ (12, any ⨾ leaf 23) ∷ (19, any ⨾ leaf 24) ∷ (5, any ⨾ leaf 25) ∷ (36, any ⨾ leaf 26) ∷ (53, table′) ∷ (7, any ⨾ funcbody) ∷ []) suffixed′ (sym ((c .before .before .before .before .before .before .before .before .get-next) .ensures) ∙ (c .before .before .before .before .before .before .t) .given .1) ((c .before .before .before .before .match2) .keys1)) (omega (arith, (get-place ((c .before .before .before .before .before .before .before .before .before .before .before .args) .stream .now) ((c .before .before .before .before .before .before .before .before .before .before .before .args) .c) (sym ((c .before .before .before .before .before .before .before .before .get-next) .ensures) ∙ (c .before .before .before .before .before .before .t) .given .1)))) ((c .before .before .leaf) .ensures ((c .before .before .before .before .before .before .before .before .before .before .before .args) .ranking) ((c .before .before .before .before .before .before .before .before .before .before .before .args) .g))
 
 pub simple-same-length-2 : (t : ℕ) → simple-lts.Need-same-length-2 (
   get-next-reads.Asked,
@@ -396,7 +396,7 @@ pub simple-returns-3 : (t : ℕ) → simple-lts.Need-returns-3 (
   suffixed.Post,
 ) (simple-at t) simple.Post
 unfolding simple′
-simple-returns-3 t c = moved ((c .before .before .before .before .before .before .before .before .before .before .before .args) .stream .now) ((c .before .before .before .before .before .before .before .before .before .before .before .args) .used) 0 ((c .before .before .before .before .before .before .before .before .before .before .before .args) .nodes .now) ((c .before .before .leaf2) .last .1 .0) ((c .before .before .leaf2) .result) (by-kind ((c .before .before .before .before .before .before .before .before .before .before .before .args) .stream .now) (ranks ((c .before .before .before .before .before .before .before .before .before .before .before .args) .ranking)) 0 (readers ((c .before .before .before .before .before .before .before .before .before .before .before .args) .stream .now) (ranks ((c .before .before .before .before .before .before .before .before .before .before .before .args) .ranking)) ((c .before .before .before .before .before .before .before .before .before .before .before .args) .g)) (hold 0 0 none) again ((c .before .before .before .before .before .before .before .before .before .before .before .args) .c) (56, any ⨾ leaf 21) ((55, any ⨾ leaf 20) ∷ (57, any ⨾ leaf 22) ∷ (12, any ⨾ leaf 23) ∷ (19, any ⨾ leaf 24) ∷ (5, any ⨾ leaf 25) ∷ (36, any ⨾ leaf 26) ∷ (53, table′) ∷ (7, any ⨾ funcbody) ∷ []) suffixed′ (sym ((c .before .before .before .before .before .before .before .before .get-next) .ensures) ∙ (c .before .before .before .before .before .before .t) .given .1) ((c .before .before .before .before .match2) .keys2)) (omega (arith, (get-place ((c .before .before .before .before .before .before .before .before .before .before .before .args) .stream .now) ((c .before .before .before .before .before .before .before .before .before .before .before .args) .c) (sym ((c .before .before .before .before .before .before .before .before .get-next) .ensures) ∙ (c .before .before .before .before .before .before .t) .given .1)))) ((c .before .before .leaf2) .ensures ((c .before .before .before .before .before .before .before .before .before .before .before .args) .ranking) ((c .before .before .before .before .before .before .before .before .before .before .before .args) .g))
+simple-returns-3 t c = moved ((c .before .before .before .before .before .before .before .before .before .before .before .args) .stream .now) (get-note ((c .before .before .before .before .before .before .before .before .before .before .before .args) .stream .now) ((c .before .before .before .before .before .before .before .before .before .before .before .args) .c) (sym ((c .before .before .before .before .before .before .before .before .get-next) .ensures) ∙ (c .before .before .before .before .before .before .t) .given .1)) ((c .before .before .before .before .before .before .before .before .before .before .before .args) .used) 0 ((c .before .before .before .before .before .before .before .before .before .before .before .args) .nodes .now) ((c .before .before .leaf2) .last .1 .0) ((c .before .before .leaf2) .result) (by-kind ((c .before .before .before .before .before .before .before .before .before .before .before .args) .stream .now) (ranks ((c .before .before .before .before .before .before .before .before .before .before .before .args) .ranking)) 0 (readers ((c .before .before .before .before .before .before .before .before .before .before .before .args) .stream .now) (ranks ((c .before .before .before .before .before .before .before .before .before .before .before .args) .ranking)) ((c .before .before .before .before .before .before .before .before .before .before .before .args) .g)) (hold 0 0 none) again ((c .before .before .before .before .before .before .before .before .before .before .before .args) .c) (56, any ⨾ leaf 21) ((55, any ⨾ leaf 20) ∷ (57, any ⨾ leaf 22) ∷ (12, any ⨾ leaf 23) ∷ (19, any ⨾ leaf 24) ∷ (5, any ⨾ leaf 25) ∷ (36, any ⨾ leaf 26) ∷ (53, table′) ∷ (7, any ⨾ funcbody) ∷ []) suffixed′ (sym ((c .before .before .before .before .before .before .before .before .get-next) .ensures) ∙ (c .before .before .before .before .before .before .t) .given .1) ((c .before .before .before .before .match2) .keys2)) (omega (arith, (get-place ((c .before .before .before .before .before .before .before .before .before .before .before .args) .stream .now) ((c .before .before .before .before .before .before .before .before .before .before .before .args) .c) (sym ((c .before .before .before .before .before .before .before .before .get-next) .ensures) ∙ (c .before .before .before .before .before .before .t) .given .1)))) ((c .before .before .leaf2) .ensures ((c .before .before .before .before .before .before .before .before .before .before .before .args) .ranking) ((c .before .before .before .before .before .before .before .before .before .before .before .args) .g))
 
 pub simple-same-length-3 : (t : ℕ) → simple-lts.Need-same-length-3 (
   get-next-reads.Asked,
@@ -429,7 +429,7 @@ pub simple-returns-4 : (t : ℕ) → simple-lts.Need-returns-4 (
   suffixed.Post,
 ) (simple-at t) simple.Post
 unfolding simple′
-simple-returns-4 t c = moved ((c .before .before .before .before .before .before .before .before .before .before .before .args) .stream .now) ((c .before .before .before .before .before .before .before .before .before .before .before .args) .used) 0 ((c .before .before .before .before .before .before .before .before .before .before .before .args) .nodes .now) ((c .before .before .leaf3) .last .1 .0) ((c .before .before .leaf3) .result) (by-kind ((c .before .before .before .before .before .before .before .before .before .before .before .args) .stream .now) (ranks ((c .before .before .before .before .before .before .before .before .before .before .before .args) .ranking)) 0 (readers ((c .before .before .before .before .before .before .before .before .before .before .before .args) .stream .now) (ranks ((c .before .before .before .before .before .before .before .before .before .before .before .args) .ranking)) ((c .before .before .before .before .before .before .before .before .before .before .before .args) .g)) (hold 0 0 none) again ((c .before .before .before .before .before .before .before .before .before .before .before .args) .c) (56, any ⨾ leaf 21) ((55, any ⨾ leaf 20) ∷ (57, any ⨾ leaf 22) ∷ (12, any ⨾ leaf 23) ∷ (19, any ⨾ leaf 24) ∷ (5, any ⨾ leaf 25) ∷ (36, any ⨾ leaf 26) ∷ (53, table′) ∷ (7, any ⨾ funcbody) ∷ []) suffixed′ (sym ((c .before .before .before .before .before .before .before .before .get-next) .ensures) ∙ (c .before .before .before .before .before .before .t) .given .1) ((c .before .before .before .before .match2) .keys3)) (omega (arith, (get-place ((c .before .before .before .before .before .before .before .before .before .before .before .args) .stream .now) ((c .before .before .before .before .before .before .before .before .before .before .before .args) .c) (sym ((c .before .before .before .before .before .before .before .before .get-next) .ensures) ∙ (c .before .before .before .before .before .before .t) .given .1)))) ((c .before .before .leaf3) .ensures ((c .before .before .before .before .before .before .before .before .before .before .before .args) .ranking) ((c .before .before .before .before .before .before .before .before .before .before .before .args) .g))
+simple-returns-4 t c = moved ((c .before .before .before .before .before .before .before .before .before .before .before .args) .stream .now) (get-note ((c .before .before .before .before .before .before .before .before .before .before .before .args) .stream .now) ((c .before .before .before .before .before .before .before .before .before .before .before .args) .c) (sym ((c .before .before .before .before .before .before .before .before .get-next) .ensures) ∙ (c .before .before .before .before .before .before .t) .given .1)) ((c .before .before .before .before .before .before .before .before .before .before .before .args) .used) 0 ((c .before .before .before .before .before .before .before .before .before .before .before .args) .nodes .now) ((c .before .before .leaf3) .last .1 .0) ((c .before .before .leaf3) .result) (by-kind ((c .before .before .before .before .before .before .before .before .before .before .before .args) .stream .now) (ranks ((c .before .before .before .before .before .before .before .before .before .before .before .args) .ranking)) 0 (readers ((c .before .before .before .before .before .before .before .before .before .before .before .args) .stream .now) (ranks ((c .before .before .before .before .before .before .before .before .before .before .before .args) .ranking)) ((c .before .before .before .before .before .before .before .before .before .before .before .args) .g)) (hold 0 0 none) again ((c .before .before .before .before .before .before .before .before .before .before .before .args) .c) (56, any ⨾ leaf 21) ((55, any ⨾ leaf 20) ∷ (57, any ⨾ leaf 22) ∷ (12, any ⨾ leaf 23) ∷ (19, any ⨾ leaf 24) ∷ (5, any ⨾ leaf 25) ∷ (36, any ⨾ leaf 26) ∷ (53, table′) ∷ (7, any ⨾ funcbody) ∷ []) suffixed′ (sym ((c .before .before .before .before .before .before .before .before .get-next) .ensures) ∙ (c .before .before .before .before .before .before .t) .given .1) ((c .before .before .before .before .match2) .keys3)) (omega (arith, (get-place ((c .before .before .before .before .before .before .before .before .before .before .before .args) .stream .now) ((c .before .before .before .before .before .before .before .before .before .before .before .args) .c) (sym ((c .before .before .before .before .before .before .before .before .get-next) .ensures) ∙ (c .before .before .before .before .before .before .t) .given .1)))) ((c .before .before .leaf3) .ensures ((c .before .before .before .before .before .before .before .before .before .before .before .args) .ranking) ((c .before .before .before .before .before .before .before .before .before .before .before .args) .g))
 
 pub simple-same-length-4 : (t : ℕ) → simple-lts.Need-same-length-4 (
   get-next-reads.Asked,
@@ -462,7 +462,7 @@ pub simple-returns-5 : (t : ℕ) → simple-lts.Need-returns-5 (
   suffixed.Post,
 ) (simple-at t) simple.Post
 unfolding simple′
-simple-returns-5 t c = moved ((c .before .before .before .before .before .before .before .before .before .before .before .args) .stream .now) ((c .before .before .before .before .before .before .before .before .before .before .before .args) .used) 0 ((c .before .before .before .before .before .before .before .before .before .before .before .args) .nodes .now) ((c .before .before .leaf4) .last .1 .0) ((c .before .before .leaf4) .result) (by-kind ((c .before .before .before .before .before .before .before .before .before .before .before .args) .stream .now) (ranks ((c .before .before .before .before .before .before .before .before .before .before .before .args) .ranking)) 0 (readers ((c .before .before .before .before .before .before .before .before .before .before .before .args) .stream .now) (ranks ((c .before .before .before .before .before .before .before .before .before .before .before .args) .ranking)) ((c .before .before .before .before .before .before .before .before .before .before .before .args) .g)) (hold 0 0 none) again ((c .before .before .before .before .before .before .before .before .before .before .before .args) .c) (56, any ⨾ leaf 21) ((55, any ⨾ leaf 20) ∷ (57, any ⨾ leaf 22) ∷ (12, any ⨾ leaf 23) ∷ (19, any ⨾ leaf 24) ∷ (5, any ⨾ leaf 25) ∷ (36, any ⨾ leaf 26) ∷ (53, table′) ∷ (7, any ⨾ funcbody) ∷ []) suffixed′ (sym ((c .before .before .before .before .before .before .before .before .get-next) .ensures) ∙ (c .before .before .before .before .before .before .t) .given .1) ((c .before .before .before .before .match2) .keys4)) (omega (arith, (get-place ((c .before .before .before .before .before .before .before .before .before .before .before .args) .stream .now) ((c .before .before .before .before .before .before .before .before .before .before .before .args) .c) (sym ((c .before .before .before .before .before .before .before .before .get-next) .ensures) ∙ (c .before .before .before .before .before .before .t) .given .1)))) ((c .before .before .leaf4) .ensures ((c .before .before .before .before .before .before .before .before .before .before .before .args) .ranking) ((c .before .before .before .before .before .before .before .before .before .before .before .args) .g))
+simple-returns-5 t c = moved ((c .before .before .before .before .before .before .before .before .before .before .before .args) .stream .now) (get-note ((c .before .before .before .before .before .before .before .before .before .before .before .args) .stream .now) ((c .before .before .before .before .before .before .before .before .before .before .before .args) .c) (sym ((c .before .before .before .before .before .before .before .before .get-next) .ensures) ∙ (c .before .before .before .before .before .before .t) .given .1)) ((c .before .before .before .before .before .before .before .before .before .before .before .args) .used) 0 ((c .before .before .before .before .before .before .before .before .before .before .before .args) .nodes .now) ((c .before .before .leaf4) .last .1 .0) ((c .before .before .leaf4) .result) (by-kind ((c .before .before .before .before .before .before .before .before .before .before .before .args) .stream .now) (ranks ((c .before .before .before .before .before .before .before .before .before .before .before .args) .ranking)) 0 (readers ((c .before .before .before .before .before .before .before .before .before .before .before .args) .stream .now) (ranks ((c .before .before .before .before .before .before .before .before .before .before .before .args) .ranking)) ((c .before .before .before .before .before .before .before .before .before .before .before .args) .g)) (hold 0 0 none) again ((c .before .before .before .before .before .before .before .before .before .before .before .args) .c) (56, any ⨾ leaf 21) ((55, any ⨾ leaf 20) ∷ (57, any ⨾ leaf 22) ∷ (12, any ⨾ leaf 23) ∷ (19, any ⨾ leaf 24) ∷ (5, any ⨾ leaf 25) ∷ (36, any ⨾ leaf 26) ∷ (53, table′) ∷ (7, any ⨾ funcbody) ∷ []) suffixed′ (sym ((c .before .before .before .before .before .before .before .before .get-next) .ensures) ∙ (c .before .before .before .before .before .before .t) .given .1) ((c .before .before .before .before .match2) .keys4)) (omega (arith, (get-place ((c .before .before .before .before .before .before .before .before .before .before .before .args) .stream .now) ((c .before .before .before .before .before .before .before .before .before .before .before .args) .c) (sym ((c .before .before .before .before .before .before .before .before .get-next) .ensures) ∙ (c .before .before .before .before .before .before .t) .given .1)))) ((c .before .before .leaf4) .ensures ((c .before .before .before .before .before .before .before .before .before .before .before .args) .ranking) ((c .before .before .before .before .before .before .before .before .before .before .before .args) .g))
 
 pub simple-same-length-5 : (t : ℕ) → simple-lts.Need-same-length-5 (
   get-next-reads.Asked,
@@ -495,7 +495,7 @@ pub simple-returns-6 : (t : ℕ) → simple-lts.Need-returns-6 (
   suffixed.Post,
 ) (simple-at t) simple.Post
 unfolding simple′
-simple-returns-6 t c = moved ((c .before .before .before .before .before .before .before .before .before .before .before .args) .stream .now) ((c .before .before .before .before .before .before .before .before .before .before .before .args) .used) 0 ((c .before .before .before .before .before .before .before .before .before .before .before .args) .nodes .now) ((c .before .before .leaf5) .last .1 .0) ((c .before .before .leaf5) .result) (by-kind ((c .before .before .before .before .before .before .before .before .before .before .before .args) .stream .now) (ranks ((c .before .before .before .before .before .before .before .before .before .before .before .args) .ranking)) 0 (readers ((c .before .before .before .before .before .before .before .before .before .before .before .args) .stream .now) (ranks ((c .before .before .before .before .before .before .before .before .before .before .before .args) .ranking)) ((c .before .before .before .before .before .before .before .before .before .before .before .args) .g)) (hold 0 0 none) again ((c .before .before .before .before .before .before .before .before .before .before .before .args) .c) (56, any ⨾ leaf 21) ((55, any ⨾ leaf 20) ∷ (57, any ⨾ leaf 22) ∷ (12, any ⨾ leaf 23) ∷ (19, any ⨾ leaf 24) ∷ (5, any ⨾ leaf 25) ∷ (36, any ⨾ leaf 26) ∷ (53, table′) ∷ (7, any ⨾ funcbody) ∷ []) suffixed′ (sym ((c .before .before .before .before .before .before .before .before .get-next) .ensures) ∙ (c .before .before .before .before .before .before .t) .given .1) ((c .before .before .before .before .match2) .keys5)) (omega (arith, (get-place ((c .before .before .before .before .before .before .before .before .before .before .before .args) .stream .now) ((c .before .before .before .before .before .before .before .before .before .before .before .args) .c) (sym ((c .before .before .before .before .before .before .before .before .get-next) .ensures) ∙ (c .before .before .before .before .before .before .t) .given .1)))) ((c .before .before .leaf5) .ensures ((c .before .before .before .before .before .before .before .before .before .before .before .args) .ranking) ((c .before .before .before .before .before .before .before .before .before .before .before .args) .g))
+simple-returns-6 t c = moved ((c .before .before .before .before .before .before .before .before .before .before .before .args) .stream .now) (get-note ((c .before .before .before .before .before .before .before .before .before .before .before .args) .stream .now) ((c .before .before .before .before .before .before .before .before .before .before .before .args) .c) (sym ((c .before .before .before .before .before .before .before .before .get-next) .ensures) ∙ (c .before .before .before .before .before .before .t) .given .1)) ((c .before .before .before .before .before .before .before .before .before .before .before .args) .used) 0 ((c .before .before .before .before .before .before .before .before .before .before .before .args) .nodes .now) ((c .before .before .leaf5) .last .1 .0) ((c .before .before .leaf5) .result) (by-kind ((c .before .before .before .before .before .before .before .before .before .before .before .args) .stream .now) (ranks ((c .before .before .before .before .before .before .before .before .before .before .before .args) .ranking)) 0 (readers ((c .before .before .before .before .before .before .before .before .before .before .before .args) .stream .now) (ranks ((c .before .before .before .before .before .before .before .before .before .before .before .args) .ranking)) ((c .before .before .before .before .before .before .before .before .before .before .before .args) .g)) (hold 0 0 none) again ((c .before .before .before .before .before .before .before .before .before .before .before .args) .c) (56, any ⨾ leaf 21) ((55, any ⨾ leaf 20) ∷ (57, any ⨾ leaf 22) ∷ (12, any ⨾ leaf 23) ∷ (19, any ⨾ leaf 24) ∷ (5, any ⨾ leaf 25) ∷ (36, any ⨾ leaf 26) ∷ (53, table′) ∷ (7, any ⨾ funcbody) ∷ []) suffixed′ (sym ((c .before .before .before .before .before .before .before .before .get-next) .ensures) ∙ (c .before .before .before .before .before .before .t) .given .1) ((c .before .before .before .before .match2) .keys5)) (omega (arith, (get-place ((c .before .before .before .before .before .before .before .before .before .before .before .args) .stream .now) ((c .before .before .before .before .before .before .before .before .before .before .before .args) .c) (sym ((c .before .before .before .before .before .before .before .before .get-next) .ensures) ∙ (c .before .before .before .before .before .before .t) .given .1)))) ((c .before .before .leaf5) .ensures ((c .before .before .before .before .before .before .before .before .before .before .before .args) .ranking) ((c .before .before .before .before .before .before .before .before .before .before .before .args) .g))
 
 pub simple-same-length-6 : (t : ℕ) → simple-lts.Need-same-length-6 (
   get-next-reads.Asked,
@@ -528,7 +528,7 @@ pub simple-returns-7 : (t : ℕ) → simple-lts.Need-returns-7 (
   suffixed.Post,
 ) (simple-at t) simple.Post
 unfolding simple′
-simple-returns-7 t c = moved ((c .before .before .before .before .before .before .before .before .before .before .before .args) .stream .now) ((c .before .before .before .before .before .before .before .before .before .before .before .args) .used) 0 ((c .before .before .before .before .before .before .before .before .before .before .before .args) .nodes .now) ((c .before .before .leaf6) .last .1 .0) ((c .before .before .leaf6) .result) (by-kind ((c .before .before .before .before .before .before .before .before .before .before .before .args) .stream .now) (ranks ((c .before .before .before .before .before .before .before .before .before .before .before .args) .ranking)) 0 (readers ((c .before .before .before .before .before .before .before .before .before .before .before .args) .stream .now) (ranks ((c .before .before .before .before .before .before .before .before .before .before .before .args) .ranking)) ((c .before .before .before .before .before .before .before .before .before .before .before .args) .g)) (hold 0 0 none) again ((c .before .before .before .before .before .before .before .before .before .before .before .args) .c) (56, any ⨾ leaf 21) ((55, any ⨾ leaf 20) ∷ (57, any ⨾ leaf 22) ∷ (12, any ⨾ leaf 23) ∷ (19, any ⨾ leaf 24) ∷ (5, any ⨾ leaf 25) ∷ (36, any ⨾ leaf 26) ∷ (53, table′) ∷ (7, any ⨾ funcbody) ∷ []) suffixed′ (sym ((c .before .before .before .before .before .before .before .before .get-next) .ensures) ∙ (c .before .before .before .before .before .before .t) .given .1) ((c .before .before .before .before .match2) .keys6)) (omega (arith, (get-place ((c .before .before .before .before .before .before .before .before .before .before .before .args) .stream .now) ((c .before .before .before .before .before .before .before .before .before .before .before .args) .c) (sym ((c .before .before .before .before .before .before .before .before .get-next) .ensures) ∙ (c .before .before .before .before .before .before .t) .given .1)))) ((c .before .before .leaf6) .ensures ((c .before .before .before .before .before .before .before .before .before .before .before .args) .ranking) ((c .before .before .before .before .before .before .before .before .before .before .before .args) .g))
+simple-returns-7 t c = moved ((c .before .before .before .before .before .before .before .before .before .before .before .args) .stream .now) (get-note ((c .before .before .before .before .before .before .before .before .before .before .before .args) .stream .now) ((c .before .before .before .before .before .before .before .before .before .before .before .args) .c) (sym ((c .before .before .before .before .before .before .before .before .get-next) .ensures) ∙ (c .before .before .before .before .before .before .t) .given .1)) ((c .before .before .before .before .before .before .before .before .before .before .before .args) .used) 0 ((c .before .before .before .before .before .before .before .before .before .before .before .args) .nodes .now) ((c .before .before .leaf6) .last .1 .0) ((c .before .before .leaf6) .result) (by-kind ((c .before .before .before .before .before .before .before .before .before .before .before .args) .stream .now) (ranks ((c .before .before .before .before .before .before .before .before .before .before .before .args) .ranking)) 0 (readers ((c .before .before .before .before .before .before .before .before .before .before .before .args) .stream .now) (ranks ((c .before .before .before .before .before .before .before .before .before .before .before .args) .ranking)) ((c .before .before .before .before .before .before .before .before .before .before .before .args) .g)) (hold 0 0 none) again ((c .before .before .before .before .before .before .before .before .before .before .before .args) .c) (56, any ⨾ leaf 21) ((55, any ⨾ leaf 20) ∷ (57, any ⨾ leaf 22) ∷ (12, any ⨾ leaf 23) ∷ (19, any ⨾ leaf 24) ∷ (5, any ⨾ leaf 25) ∷ (36, any ⨾ leaf 26) ∷ (53, table′) ∷ (7, any ⨾ funcbody) ∷ []) suffixed′ (sym ((c .before .before .before .before .before .before .before .before .get-next) .ensures) ∙ (c .before .before .before .before .before .before .t) .given .1) ((c .before .before .before .before .match2) .keys6)) (omega (arith, (get-place ((c .before .before .before .before .before .before .before .before .before .before .before .args) .stream .now) ((c .before .before .before .before .before .before .before .before .before .before .before .args) .c) (sym ((c .before .before .before .before .before .before .before .before .get-next) .ensures) ∙ (c .before .before .before .before .before .before .t) .given .1)))) ((c .before .before .leaf6) .ensures ((c .before .before .before .before .before .before .before .before .before .before .before .args) .ranking) ((c .before .before .before .before .before .before .before .before .before .before .before .args) .g))
 
 pub simple-same-length-7 : (t : ℕ) → simple-lts.Need-same-length-7 (
   get-next-reads.Asked,
@@ -561,7 +561,7 @@ pub simple-returns-8 : (t : ℕ) → simple-lts.Need-returns-8 (
   suffixed.Post,
 ) (simple-at t) simple.Post
 unfolding simple′
-simple-returns-8 t c = moved ((c .before .before .before .before .before .before .before .before .before .before .before .args) .stream .now) ((c .before .before .before .before .before .before .before .before .before .before .before .args) .used) 0 ((c .before .before .before .before .before .before .before .before .before .before .before .args) .nodes .now) ((c .before .before .leaf7) .last .1 .0) ((c .before .before .leaf7) .result) (by-kind ((c .before .before .before .before .before .before .before .before .before .before .before .args) .stream .now) (ranks ((c .before .before .before .before .before .before .before .before .before .before .before .args) .ranking)) 0 (readers ((c .before .before .before .before .before .before .before .before .before .before .before .args) .stream .now) (ranks ((c .before .before .before .before .before .before .before .before .before .before .before .args) .ranking)) ((c .before .before .before .before .before .before .before .before .before .before .before .args) .g)) (hold 0 0 none) again ((c .before .before .before .before .before .before .before .before .before .before .before .args) .c) (56, any ⨾ leaf 21) ((55, any ⨾ leaf 20) ∷ (57, any ⨾ leaf 22) ∷ (12, any ⨾ leaf 23) ∷ (19, any ⨾ leaf 24) ∷ (5, any ⨾ leaf 25) ∷ (36, any ⨾ leaf 26) ∷ (53, table′) ∷ (7, any ⨾ funcbody) ∷ []) suffixed′ (sym ((c .before .before .before .before .before .before .before .before .get-next) .ensures) ∙ (c .before .before .before .before .before .before .t) .given .1) ((c .before .before .before .before .match2) .keys7)) (omega (arith, (get-place ((c .before .before .before .before .before .before .before .before .before .before .before .args) .stream .now) ((c .before .before .before .before .before .before .before .before .before .before .before .args) .c) (sym ((c .before .before .before .before .before .before .before .before .get-next) .ensures) ∙ (c .before .before .before .before .before .before .t) .given .1)))) ((c .before .before .leaf7) .ensures ((c .before .before .before .before .before .before .before .before .before .before .before .args) .ranking) ((c .before .before .before .before .before .before .before .before .before .before .before .args) .g))
+simple-returns-8 t c = moved ((c .before .before .before .before .before .before .before .before .before .before .before .args) .stream .now) (get-note ((c .before .before .before .before .before .before .before .before .before .before .before .args) .stream .now) ((c .before .before .before .before .before .before .before .before .before .before .before .args) .c) (sym ((c .before .before .before .before .before .before .before .before .get-next) .ensures) ∙ (c .before .before .before .before .before .before .t) .given .1)) ((c .before .before .before .before .before .before .before .before .before .before .before .args) .used) 0 ((c .before .before .before .before .before .before .before .before .before .before .before .args) .nodes .now) ((c .before .before .leaf7) .last .1 .0) ((c .before .before .leaf7) .result) (by-kind ((c .before .before .before .before .before .before .before .before .before .before .before .args) .stream .now) (ranks ((c .before .before .before .before .before .before .before .before .before .before .before .args) .ranking)) 0 (readers ((c .before .before .before .before .before .before .before .before .before .before .before .args) .stream .now) (ranks ((c .before .before .before .before .before .before .before .before .before .before .before .args) .ranking)) ((c .before .before .before .before .before .before .before .before .before .before .before .args) .g)) (hold 0 0 none) again ((c .before .before .before .before .before .before .before .before .before .before .before .args) .c) (56, any ⨾ leaf 21) ((55, any ⨾ leaf 20) ∷ (57, any ⨾ leaf 22) ∷ (12, any ⨾ leaf 23) ∷ (19, any ⨾ leaf 24) ∷ (5, any ⨾ leaf 25) ∷ (36, any ⨾ leaf 26) ∷ (53, table′) ∷ (7, any ⨾ funcbody) ∷ []) suffixed′ (sym ((c .before .before .before .before .before .before .before .before .get-next) .ensures) ∙ (c .before .before .before .before .before .before .t) .given .1) ((c .before .before .before .before .match2) .keys7)) (omega (arith, (get-place ((c .before .before .before .before .before .before .before .before .before .before .before .args) .stream .now) ((c .before .before .before .before .before .before .before .before .before .before .before .args) .c) (sym ((c .before .before .before .before .before .before .before .before .get-next) .ensures) ∙ (c .before .before .before .before .before .before .t) .given .1)))) ((c .before .before .leaf7) .ensures ((c .before .before .before .before .before .before .before .before .before .before .before .args) .ranking) ((c .before .before .before .before .before .before .before .before .before .before .before .args) .g))
 
 pub simple-same-length-8 : (t : ℕ) → simple-lts.Need-same-length-8 (
   get-next-reads.Asked,
@@ -594,7 +594,7 @@ pub simple-returns-9 : (t : ℕ) → simple-lts.Need-returns-9 (
   suffixed.Post,
 ) (simple-at t) simple.Post
 unfolding simple′
-simple-returns-9 t c = moved ((c .before .before .before .before .before .before .before .before .before .before .before .args) .stream .now) ((c .before .before .before .before .before .before .before .before .before .before .before .args) .used) 0 ((c .before .before .before .before .before .before .before .before .before .before .before .args) .nodes .now) ((c .before .before .table) .last .1 .0) ((c .before .before .table) .result) (by-kind ((c .before .before .before .before .before .before .before .before .before .before .before .args) .stream .now) (ranks ((c .before .before .before .before .before .before .before .before .before .before .before .args) .ranking)) 0 (readers ((c .before .before .before .before .before .before .before .before .before .before .before .args) .stream .now) (ranks ((c .before .before .before .before .before .before .before .before .before .before .before .args) .ranking)) ((c .before .before .before .before .before .before .before .before .before .before .before .args) .g)) (hold 0 0 none) again ((c .before .before .before .before .before .before .before .before .before .before .before .args) .c) (56, any ⨾ leaf 21) ((55, any ⨾ leaf 20) ∷ (57, any ⨾ leaf 22) ∷ (12, any ⨾ leaf 23) ∷ (19, any ⨾ leaf 24) ∷ (5, any ⨾ leaf 25) ∷ (36, any ⨾ leaf 26) ∷ (53, table′) ∷ (7, any ⨾ funcbody) ∷ []) suffixed′ (sym ((c .before .before .before .before .before .before .before .before .get-next) .ensures) ∙ (c .before .before .before .before .before .before .t) .given .1) ((c .before .before .before .before .match2) .keys8)) (omega (arith, (get-place ((c .before .before .before .before .before .before .before .before .before .before .before .args) .stream .now) ((c .before .before .before .before .before .before .before .before .before .before .before .args) .c) (sym ((c .before .before .before .before .before .before .before .before .get-next) .ensures) ∙ (c .before .before .before .before .before .before .t) .given .1)))) ((c .before .before .table) .ensures)
+simple-returns-9 t c = moved ((c .before .before .before .before .before .before .before .before .before .before .before .args) .stream .now) (get-note ((c .before .before .before .before .before .before .before .before .before .before .before .args) .stream .now) ((c .before .before .before .before .before .before .before .before .before .before .before .args) .c) (sym ((c .before .before .before .before .before .before .before .before .get-next) .ensures) ∙ (c .before .before .before .before .before .before .t) .given .1)) ((c .before .before .before .before .before .before .before .before .before .before .before .args) .used) 0 ((c .before .before .before .before .before .before .before .before .before .before .before .args) .nodes .now) ((c .before .before .table) .last .1 .0) ((c .before .before .table) .result) (by-kind ((c .before .before .before .before .before .before .before .before .before .before .before .args) .stream .now) (ranks ((c .before .before .before .before .before .before .before .before .before .before .before .args) .ranking)) 0 (readers ((c .before .before .before .before .before .before .before .before .before .before .before .args) .stream .now) (ranks ((c .before .before .before .before .before .before .before .before .before .before .before .args) .ranking)) ((c .before .before .before .before .before .before .before .before .before .before .before .args) .g)) (hold 0 0 none) again ((c .before .before .before .before .before .before .before .before .before .before .before .args) .c) (56, any ⨾ leaf 21) ((55, any ⨾ leaf 20) ∷ (57, any ⨾ leaf 22) ∷ (12, any ⨾ leaf 23) ∷ (19, any ⨾ leaf 24) ∷ (5, any ⨾ leaf 25) ∷ (36, any ⨾ leaf 26) ∷ (53, table′) ∷ (7, any ⨾ funcbody) ∷ []) suffixed′ (sym ((c .before .before .before .before .before .before .before .before .get-next) .ensures) ∙ (c .before .before .before .before .before .before .t) .given .1) ((c .before .before .before .before .match2) .keys8)) (omega (arith, (get-place ((c .before .before .before .before .before .before .before .before .before .before .before .args) .stream .now) ((c .before .before .before .before .before .before .before .before .before .before .before .args) .c) (sym ((c .before .before .before .before .before .before .before .before .get-next) .ensures) ∙ (c .before .before .before .before .before .before .t) .given .1)))) ((c .before .before .table) .ensures)
 
 pub simple-returns-10 : (t : ℕ) → simple-lts.Need-returns-10 (
   get-next-reads.Asked,
@@ -645,8 +645,8 @@ pub simple-returns-11 : (t : ℕ) → simple-lts.Need-returns-11 (
 ) (simple-at t) simple.Post
 unfolding read simple′
 simple-returns-11 t c =
-    let f1 = any-fine ((c .before .before .before .before .before .before .before .before .before .before .before .before .before .before .before .args) .stream .now) (ranks ((c .before .before .before .before .before .before .before .before .before .before .before .before .before .before .before .args) .ranking)) 0 (readers ((c .before .before .before .before .before .before .before .before .before .before .before .before .before .before .before .args) .stream .now) (ranks ((c .before .before .before .before .before .before .before .before .before .before .before .before .before .before .before .args) .ranking)) ((c .before .before .before .before .before .before .before .before .before .before .before .before .before .before .before .args) .g)) (hold 0 0 none) again ((c .before .before .before .before .before .before .before .before .before .before .t) .given .0 .1 .0) ((c .before .before .before .before .before .before .before .before .before .before .before .before .before .before .before .args) .nodes .now) ((c .before .before .before .before .before .before .before .before .before .before .before .before .before .before .before .args) .used) 0 (((c .before .before .before .before .before .before .before .before .before .before .before .before .before .before .before .pre) .1) .formed) (omega (arith, ((c .before .before .before .before .before .before .before .before .before .before .before .before .before .before .before .pre) .1) .room, (get-place ((c .before .before .before .before .before .before .before .before .before .before .before .before .before .before .before .args) .stream .now) ((c .before .before .before .before .before .before .before .before .before .before .before .before .before .before .before .args) .c) (sym ((c .before .before .before .before .before .before .before .before .before .before .before .before .get-next) .ensures) ∙ (c .before .before .before .before .before .before .before .before .before .before .t) .given .1)))) ((sym ((c .before .before .before .before .before .before .before .take-next) .ensures)) ∙ (c .before .before .before .before .before .e3) .given .1) in
-    moved ((c .before .before .before .before .before .before .before .before .before .before .before .before .before .before .before .args) .stream .now) ((c .before .before .before .before .before .before .before .before .before .before .before .before .before .before .before .args) .used) 0 ((c .before .before .before .before .before .before .before .before .before .before .before .before .before .before .before .args) .nodes .now) ((c .before .before .def) .last .1 .0) ((c .before .before .def) .result) (by-kind ((c .before .before .before .before .before .before .before .before .before .before .before .before .before .before .before .args) .stream .now) (ranks ((c .before .before .before .before .before .before .before .before .before .before .before .before .before .before .before .args) .ranking)) 0 (readers ((c .before .before .before .before .before .before .before .before .before .before .before .before .before .before .before .args) .stream .now) (ranks ((c .before .before .before .before .before .before .before .before .before .before .before .before .before .before .before .args) .ranking)) ((c .before .before .before .before .before .before .before .before .before .before .before .before .before .before .before .args) .g)) (hold 0 0 none) again ((c .before .before .before .before .before .before .before .before .before .before .before .before .before .before .before .args) .c) (56, any ⨾ leaf 21) ((55, any ⨾ leaf 20) ∷ (57, any ⨾ leaf 22) ∷ (12, any ⨾ leaf 23) ∷ (19, any ⨾ leaf 24) ∷ (5, any ⨾ leaf 25) ∷ (36, any ⨾ leaf 26) ∷ (53, table′) ∷ (7, any ⨾ funcbody) ∷ []) suffixed′ (sym ((c .before .before .before .before .before .before .before .before .before .before .before .before .get-next) .ensures) ∙ (c .before .before .before .before .before .before .before .before .before .before .t) .given .1) ((c .before .before .before .before .before .before .before .before .match2) .keys9)) (omega (arith, (get-place ((c .before .before .before .before .before .before .before .before .before .before .before .before .before .before .before .args) .stream .now) ((c .before .before .before .before .before .before .before .before .before .before .before .before .before .before .before .args) .c) (sym ((c .before .before .before .before .before .before .before .before .before .before .before .before .get-next) .ensures) ∙ (c .before .before .before .before .before .before .before .before .before .before .t) .given .1)))) (onward 0 ((c .before .before .def) .last .1 .0) _ f1 ((c .before .before .def) .result) ((c .before .before .def) .ensures) (omega arith))
+    let f1 = renoted (get-note ((c .before .before .before .before .before .before .before .before .before .before .before .before .before .before .before .args) .stream .now) ((c .before .before .before .before .before .before .before .before .before .before .before .before .before .before .before .args) .c) (sym ((c .before .before .before .before .before .before .before .before .before .before .before .before .get-next) .ensures) ∙ (c .before .before .before .before .before .before .before .before .before .before .t) .given .1)) (any-fine ((c .before .before .before .before .before .before .before .before .before .before .before .before .before .before .before .args) .stream .now) (ranks ((c .before .before .before .before .before .before .before .before .before .before .before .before .before .before .before .args) .ranking)) 0 (readers ((c .before .before .before .before .before .before .before .before .before .before .before .before .before .before .before .args) .stream .now) (ranks ((c .before .before .before .before .before .before .before .before .before .before .before .before .before .before .before .args) .ranking)) ((c .before .before .before .before .before .before .before .before .before .before .before .before .before .before .before .args) .g)) (hold 0 0 none) again ((c .before .before .before .before .before .before .before .before .before .before .t) .given .0 .1 .0) ((c .before .before .before .before .before .before .before .before .before .before .before .before .before .before .before .args) .nodes .now) ((c .before .before .before .before .before .before .before .before .before .before .before .before .before .before .before .args) .used) 0 (((c .before .before .before .before .before .before .before .before .before .before .before .before .before .before .before .pre) .1) .formed) (omega (arith, ((c .before .before .before .before .before .before .before .before .before .before .before .before .before .before .before .pre) .1) .room, (get-place ((c .before .before .before .before .before .before .before .before .before .before .before .before .before .before .before .args) .stream .now) ((c .before .before .before .before .before .before .before .before .before .before .before .before .before .before .before .args) .c) (sym ((c .before .before .before .before .before .before .before .before .before .before .before .before .get-next) .ensures) ∙ (c .before .before .before .before .before .before .before .before .before .before .t) .given .1)))) ((sym ((c .before .before .before .before .before .before .before .take-next) .ensures)) ∙ (c .before .before .before .before .before .e3) .given .1)) in
+    moved ((c .before .before .before .before .before .before .before .before .before .before .before .before .before .before .before .args) .stream .now) (still (((c .before .before .before .before .before .before .before .before .before .before .before .before .before .before .before .args) .c) .note)) ((c .before .before .before .before .before .before .before .before .before .before .before .before .before .before .before .args) .used) 0 ((c .before .before .before .before .before .before .before .before .before .before .before .before .before .before .before .args) .nodes .now) ((c .before .before .def) .last .1 .0) ((c .before .before .def) .result) (by-kind ((c .before .before .before .before .before .before .before .before .before .before .before .before .before .before .before .args) .stream .now) (ranks ((c .before .before .before .before .before .before .before .before .before .before .before .before .before .before .before .args) .ranking)) 0 (readers ((c .before .before .before .before .before .before .before .before .before .before .before .before .before .before .before .args) .stream .now) (ranks ((c .before .before .before .before .before .before .before .before .before .before .before .before .before .before .before .args) .ranking)) ((c .before .before .before .before .before .before .before .before .before .before .before .before .before .before .before .args) .g)) (hold 0 0 none) again ((c .before .before .before .before .before .before .before .before .before .before .before .before .before .before .before .args) .c) (56, any ⨾ leaf 21) ((55, any ⨾ leaf 20) ∷ (57, any ⨾ leaf 22) ∷ (12, any ⨾ leaf 23) ∷ (19, any ⨾ leaf 24) ∷ (5, any ⨾ leaf 25) ∷ (36, any ⨾ leaf 26) ∷ (53, table′) ∷ (7, any ⨾ funcbody) ∷ []) suffixed′ (sym ((c .before .before .before .before .before .before .before .before .before .before .before .before .get-next) .ensures) ∙ (c .before .before .before .before .before .before .before .before .before .before .t) .given .1) ((c .before .before .before .before .before .before .before .before .match2) .keys9)) (omega (arith, (get-place ((c .before .before .before .before .before .before .before .before .before .before .before .before .before .before .before .args) .stream .now) ((c .before .before .before .before .before .before .before .before .before .before .before .before .before .before .before .args) .c) (sym ((c .before .before .before .before .before .before .before .before .before .before .before .before .get-next) .ensures) ∙ (c .before .before .before .before .before .before .before .before .before .before .t) .given .1)))) (onward 0 ((c .before .before .def) .last .1 .0) _ f1 ((c .before .before .def) .result) ((c .before .before .def) .ensures) (omega arith))
 
 pub simple-same-length-10 : (t : ℕ) → simple-lts.Need-same-length-10 (
   get-next-reads.Asked,
@@ -716,4 +716,4 @@ pub simple-returns-13 : (t : ℕ) → simple-lts.Need-returns-13 (
 unfolding simple′
 simple-returns-13 t c =
     let y = (rw ((c .before .e5) .given .1) at ((c .before .before .before .before .before .suffixed) .ensures)) .0 in
-    lower (((c .before .before .before .before .before .before .before .before .before .before .before .before .before .before .args) .c) .place + 1) (alter (by-others ((c .before .before .before .before .before .before .before .before .before .before .before .before .before .before .args) .stream .now) (ranks ((c .before .before .before .before .before .before .before .before .before .before .before .before .before .before .args) .ranking)) 0 (readers ((c .before .before .before .before .before .before .before .before .before .before .before .before .before .before .args) .stream .now) (ranks ((c .before .before .before .before .before .before .before .before .before .before .before .before .before .before .args) .ranking)) ((c .before .before .before .before .before .before .before .before .before .before .before .before .before .before .args) .g)) (hold 0 0 none) again ((c .before .before .before .before .before .before .before .before .before .before .before .before .before .before .args) .c) (56, any ⨾ leaf 21) ((55, any ⨾ leaf 20) ∷ (57, any ⨾ leaf 22) ∷ (12, any ⨾ leaf 23) ∷ (19, any ⨾ leaf 24) ∷ (5, any ⨾ leaf 25) ∷ (36, any ⨾ leaf 26) ∷ (53, table′) ∷ (7, any ⨾ funcbody) ∷ []) suffixed′ (sym ((c .before .before .before .before .before .before .before .before .before .before .before .get-next) .ensures) ∙ (c .before .before .before .before .before .before .before .before .before .t) .given .1) ((c .before .before .before .before .before .before .before .match2) .rest .0 .0 .0 .0 .0 .0 .0 .0 .1) ((c .before .before .before .before .before .before .before .match2) .rest .0 .0 .0 .0 .0 .0 .0 .1) ((c .before .before .before .before .before .before .before .match2) .rest .0 .0 .0 .0 .0 .0 .1) ((c .before .before .before .before .before .before .before .match2) .rest .0 .0 .0 .0 .0 .1) ((c .before .before .before .before .before .before .before .match2) .rest .0 .0 .0 .0 .1) ((c .before .before .before .before .before .before .before .match2) .rest .0 .0 .0 .1) ((c .before .before .before .before .before .before .before .match2) .rest .0 .0 .1) ((c .before .before .before .before .before .before .before .match2) .rest .0 .1) ((c .before .before .before .before .before .before .before .match2) .rest .1)) y) (omega (arith, y .later, (get-place ((c .before .before .before .before .before .before .before .before .before .before .before .before .before .before .args) .stream .now) ((c .before .before .before .before .before .before .before .before .before .before .before .before .before .before .args) .c) (sym ((c .before .before .before .before .before .before .before .before .before .before .before .get-next) .ensures) ∙ (c .before .before .before .before .before .before .before .before .before .t) .given .1))))
+    lower (((c .before .before .before .before .before .before .before .before .before .before .before .before .before .before .args) .c) .place + 1) (alter (by-others ((c .before .before .before .before .before .before .before .before .before .before .before .before .before .before .args) .stream .now) (ranks ((c .before .before .before .before .before .before .before .before .before .before .before .before .before .before .args) .ranking)) 0 (readers ((c .before .before .before .before .before .before .before .before .before .before .before .before .before .before .args) .stream .now) (ranks ((c .before .before .before .before .before .before .before .before .before .before .before .before .before .before .args) .ranking)) ((c .before .before .before .before .before .before .before .before .before .before .before .before .before .before .args) .g)) (hold 0 0 none) again ((c .before .before .before .before .before .before .before .before .before .before .before .before .before .before .args) .c) (56, any ⨾ leaf 21) ((55, any ⨾ leaf 20) ∷ (57, any ⨾ leaf 22) ∷ (12, any ⨾ leaf 23) ∷ (19, any ⨾ leaf 24) ∷ (5, any ⨾ leaf 25) ∷ (36, any ⨾ leaf 26) ∷ (53, table′) ∷ (7, any ⨾ funcbody) ∷ []) suffixed′ (sym ((c .before .before .before .before .before .before .before .before .before .before .before .get-next) .ensures) ∙ (c .before .before .before .before .before .before .before .before .before .t) .given .1) ((c .before .before .before .before .before .before .before .match2) .rest .0 .0 .0 .0 .0 .0 .0 .0 .1) ((c .before .before .before .before .before .before .before .match2) .rest .0 .0 .0 .0 .0 .0 .0 .1) ((c .before .before .before .before .before .before .before .match2) .rest .0 .0 .0 .0 .0 .0 .1) ((c .before .before .before .before .before .before .before .match2) .rest .0 .0 .0 .0 .0 .1) ((c .before .before .before .before .before .before .before .match2) .rest .0 .0 .0 .0 .1) ((c .before .before .before .before .before .before .before .match2) .rest .0 .0 .0 .1) ((c .before .before .before .before .before .before .before .match2) .rest .0 .0 .1) ((c .before .before .before .before .before .before .before .match2) .rest .0 .1) ((c .before .before .before .before .before .before .before .match2) .rest .1)) (renoted (get-note ((c .before .before .before .before .before .before .before .before .before .before .before .before .before .before .args) .stream .now) ((c .before .before .before .before .before .before .before .before .before .before .before .before .before .before .args) .c) (sym ((c .before .before .before .before .before .before .before .before .before .before .before .get-next) .ensures) ∙ (c .before .before .before .before .before .before .before .before .before .t) .given .1)) y)) (omega (arith, y .later, (get-place ((c .before .before .before .before .before .before .before .before .before .before .before .before .before .before .args) .stream .now) ((c .before .before .before .before .before .before .before .before .before .before .before .before .before .before .args) .c) (sym ((c .before .before .before .before .before .before .before .before .before .before .before .get-next) .ensures) ∙ (c .before .before .before .before .before .before .before .before .before .t) .given .1))))

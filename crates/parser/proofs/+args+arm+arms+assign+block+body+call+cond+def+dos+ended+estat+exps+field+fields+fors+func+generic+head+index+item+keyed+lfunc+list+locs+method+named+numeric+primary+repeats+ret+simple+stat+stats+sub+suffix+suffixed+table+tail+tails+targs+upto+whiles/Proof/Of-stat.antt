@@ -32,7 +32,7 @@ use Rattle.grammar.specs.Levels.{readers}
 use Rattle.grammar.specs.Term.{second}
 use Rattle.grammar.specs.Term.{on}
 use Rattle.parser.specs.Contract.{again}
-use Rattle.parser.proofs.Steps.{second-in, second-out, check-place, get-place, got-line}
+use Rattle.parser.proofs.Steps.{second-in, second-out, check-place, get-place, check-note, get-note, got-line}
 use Rattle.parser.proofs.Kit.{kept, ready-seen, moved, stop}
 use Rattle.parser.proofs.Looks.{by-none, by-kind, by-others}
 use Rattle.parser.proofs.Around.{stats-deep, stats-down}
@@ -1059,7 +1059,7 @@ pub stat-returns-3 : (t : ℕ) → stat-lts.Need-returns-3 (
   estat.Post,
 ) (stat-at t) stat.Post
 unfolding statement′
-stat-returns-3 t c = moved ((c .before .before .before .before .before .before .before .before .before .before .before .before .args) .stream .now) ((c .before .before .before .before .before .before .before .before .before .before .before .before .args) .used) 0 ((c .before .before .before .before .before .before .before .before .before .before .before .before .args) .nodes .now) ((c .before .before .cond) .last .1 .0) ((c .before .before .cond) .result) (stats-down ((c .before .before .before .before .before .before .before .before .before .before .before .before .args) .stream .now) ((c .before .before .before .before .before .before .before .before .before .before .before .before .args) .ranking) ((c .before .before .before .before .before .before .before .before .before .before .before .before .args) .g) ((c .before .before .before .before .before .before .before .before .before .before .before .before .args) .c) ((c .before .before .before .before .before .before .before .before .before .if1) .left) ∙ by-kind ((c .before .before .before .before .before .before .before .before .before .before .before .before .args) .stream .now) (ranks ((c .before .before .before .before .before .before .before .before .before .before .before .before .args) .ranking)) 0 (readers ((c .before .before .before .before .before .before .before .before .before .before .before .before .args) .stream .now) (ranks ((c .before .before .before .before .before .before .before .before .before .before .before .before .args) .ranking)) (((c .before .before .before .before .before .before .before .before .before .before .before .before .args) .g) - 1)) (hold 0 0 none) again ((c .before .before .before .before .before .before .before .before .before .before .before .before .args) .c) (9, ifstat) ((21, whilestat) ∷ (1, dostat) ∷ (6, forstat) ∷ (16, repeatstat) ∷ (7, functionstat) ∷ (11, (on second (7 ∷ []) localfunction localstat)) ∷ (47, label′) ∷ (0, breakstat) ∷ (8, gotostat) ∷ []) exprstat (sym ((c .before .before .before .before .before .before .before .before .get-next) .ensures) ∙ (c .before .before .before .before .before .before .t) .given .1) ((c .before .before .before .before .match2) .keys1)) (omega (arith, (get-place ((c .before .before .before .before .before .before .before .before .before .before .before .before .args) .stream .now) ((c .before .before .before .before .before .before .before .before .before .before .before .before .args) .c) (sym ((c .before .before .before .before .before .before .before .before .get-next) .ensures) ∙ (c .before .before .before .before .before .before .t) .given .1)))) ((c .before .before .cond) .ensures)
+stat-returns-3 t c = moved ((c .before .before .before .before .before .before .before .before .before .before .before .before .args) .stream .now) (get-note ((c .before .before .before .before .before .before .before .before .before .before .before .before .args) .stream .now) ((c .before .before .before .before .before .before .before .before .before .before .before .before .args) .c) (sym ((c .before .before .before .before .before .before .before .before .get-next) .ensures) ∙ (c .before .before .before .before .before .before .t) .given .1)) ((c .before .before .before .before .before .before .before .before .before .before .before .before .args) .used) 0 ((c .before .before .before .before .before .before .before .before .before .before .before .before .args) .nodes .now) ((c .before .before .cond) .last .1 .0) ((c .before .before .cond) .result) (stats-down ((c .before .before .before .before .before .before .before .before .before .before .before .before .args) .stream .now) ((c .before .before .before .before .before .before .before .before .before .before .before .before .args) .ranking) ((c .before .before .before .before .before .before .before .before .before .before .before .before .args) .g) ((c .before .before .before .before .before .before .before .before .before .before .before .before .args) .c) ((c .before .before .before .before .before .before .before .before .before .if1) .left) ∙ by-kind ((c .before .before .before .before .before .before .before .before .before .before .before .before .args) .stream .now) (ranks ((c .before .before .before .before .before .before .before .before .before .before .before .before .args) .ranking)) 0 (readers ((c .before .before .before .before .before .before .before .before .before .before .before .before .args) .stream .now) (ranks ((c .before .before .before .before .before .before .before .before .before .before .before .before .args) .ranking)) (((c .before .before .before .before .before .before .before .before .before .before .before .before .args) .g) - 1)) (hold 0 0 none) again ((c .before .before .before .before .before .before .before .before .before .before .before .before .args) .c) (9, ifstat) ((21, whilestat) ∷ (1, dostat) ∷ (6, forstat) ∷ (16, repeatstat) ∷ (7, functionstat) ∷ (11, (on second (7 ∷ []) localfunction localstat)) ∷ (47, label′) ∷ (0, breakstat) ∷ (8, gotostat) ∷ []) exprstat (sym ((c .before .before .before .before .before .before .before .before .get-next) .ensures) ∙ (c .before .before .before .before .before .before .t) .given .1) ((c .before .before .before .before .match2) .keys1)) (omega (arith, (get-place ((c .before .before .before .before .before .before .before .before .before .before .before .before .args) .stream .now) ((c .before .before .before .before .before .before .before .before .before .before .before .before .args) .c) (sym ((c .before .before .before .before .before .before .before .before .get-next) .ensures) ∙ (c .before .before .before .before .before .before .t) .given .1)))) ((c .before .before .cond) .ensures)
 
 pub stat-same-length-2 : (t : ℕ) → stat-lts.Need-same-length-2 (
   deep-reads.Asked,
@@ -1128,7 +1128,7 @@ pub stat-returns-4 : (t : ℕ) → stat-lts.Need-returns-4 (
   estat.Post,
 ) (stat-at t) stat.Post
 unfolding statement′
-stat-returns-4 t c = moved ((c .before .before .before .before .before .before .before .before .before .before .before .before .args) .stream .now) ((c .before .before .before .before .before .before .before .before .before .before .before .before .args) .used) 0 ((c .before .before .before .before .before .before .before .before .before .before .before .before .args) .nodes .now) ((c .before .before .whiles) .last .1 .0) ((c .before .before .whiles) .result) (stats-down ((c .before .before .before .before .before .before .before .before .before .before .before .before .args) .stream .now) ((c .before .before .before .before .before .before .before .before .before .before .before .before .args) .ranking) ((c .before .before .before .before .before .before .before .before .before .before .before .before .args) .g) ((c .before .before .before .before .before .before .before .before .before .before .before .before .args) .c) ((c .before .before .before .before .before .before .before .before .before .if1) .left) ∙ by-kind ((c .before .before .before .before .before .before .before .before .before .before .before .before .args) .stream .now) (ranks ((c .before .before .before .before .before .before .before .before .before .before .before .before .args) .ranking)) 0 (readers ((c .before .before .before .before .before .before .before .before .before .before .before .before .args) .stream .now) (ranks ((c .before .before .before .before .before .before .before .before .before .before .before .before .args) .ranking)) (((c .before .before .before .before .before .before .before .before .before .before .before .before .args) .g) - 1)) (hold 0 0 none) again ((c .before .before .before .before .before .before .before .before .before .before .before .before .args) .c) (9, ifstat) ((21, whilestat) ∷ (1, dostat) ∷ (6, forstat) ∷ (16, repeatstat) ∷ (7, functionstat) ∷ (11, (on second (7 ∷ []) localfunction localstat)) ∷ (47, label′) ∷ (0, breakstat) ∷ (8, gotostat) ∷ []) exprstat (sym ((c .before .before .before .before .before .before .before .before .get-next) .ensures) ∙ (c .before .before .before .before .before .before .t) .given .1) ((c .before .before .before .before .match2) .keys2)) (omega (arith, (get-place ((c .before .before .before .before .before .before .before .before .before .before .before .before .args) .stream .now) ((c .before .before .before .before .before .before .before .before .before .before .before .before .args) .c) (sym ((c .before .before .before .before .before .before .before .before .get-next) .ensures) ∙ (c .before .before .before .before .before .before .t) .given .1)))) ((c .before .before .whiles) .ensures)
+stat-returns-4 t c = moved ((c .before .before .before .before .before .before .before .before .before .before .before .before .args) .stream .now) (get-note ((c .before .before .before .before .before .before .before .before .before .before .before .before .args) .stream .now) ((c .before .before .before .before .before .before .before .before .before .before .before .before .args) .c) (sym ((c .before .before .before .before .before .before .before .before .get-next) .ensures) ∙ (c .before .before .before .before .before .before .t) .given .1)) ((c .before .before .before .before .before .before .before .before .before .before .before .before .args) .used) 0 ((c .before .before .before .before .before .before .before .before .before .before .before .before .args) .nodes .now) ((c .before .before .whiles) .last .1 .0) ((c .before .before .whiles) .result) (stats-down ((c .before .before .before .before .before .before .before .before .before .before .before .before .args) .stream .now) ((c .before .before .before .before .before .before .before .before .before .before .before .before .args) .ranking) ((c .before .before .before .before .before .before .before .before .before .before .before .before .args) .g) ((c .before .before .before .before .before .before .before .before .before .before .before .before .args) .c) ((c .before .before .before .before .before .before .before .before .before .if1) .left) ∙ by-kind ((c .before .before .before .before .before .before .before .before .before .before .before .before .args) .stream .now) (ranks ((c .before .before .before .before .before .before .before .before .before .before .before .before .args) .ranking)) 0 (readers ((c .before .before .before .before .before .before .before .before .before .before .before .before .args) .stream .now) (ranks ((c .before .before .before .before .before .before .before .before .before .before .before .before .args) .ranking)) (((c .before .before .before .before .before .before .before .before .before .before .before .before .args) .g) - 1)) (hold 0 0 none) again ((c .before .before .before .before .before .before .before .before .before .before .before .before .args) .c) (9, ifstat) ((21, whilestat) ∷ (1, dostat) ∷ (6, forstat) ∷ (16, repeatstat) ∷ (7, functionstat) ∷ (11, (on second (7 ∷ []) localfunction localstat)) ∷ (47, label′) ∷ (0, breakstat) ∷ (8, gotostat) ∷ []) exprstat (sym ((c .before .before .before .before .before .before .before .before .get-next) .ensures) ∙ (c .before .before .before .before .before .before .t) .given .1) ((c .before .before .before .before .match2) .keys2)) (omega (arith, (get-place ((c .before .before .before .before .before .before .before .before .before .before .before .before .args) .stream .now) ((c .before .before .before .before .before .before .before .before .before .before .before .before .args) .c) (sym ((c .before .before .before .before .before .before .before .before .get-next) .ensures) ∙ (c .before .before .before .before .before .before .t) .given .1)))) ((c .before .before .whiles) .ensures)
 
 pub stat-same-length-3 : (t : ℕ) → stat-lts.Need-same-length-3 (
   deep-reads.Asked,
@@ -1197,7 +1197,7 @@ pub stat-returns-5 : (t : ℕ) → stat-lts.Need-returns-5 (
   estat.Post,
 ) (stat-at t) stat.Post
 unfolding statement′
-stat-returns-5 t c = moved ((c .before .before .before .before .before .before .before .before .before .before .before .before .args) .stream .now) ((c .before .before .before .before .before .before .before .before .before .before .before .before .args) .used) 0 ((c .before .before .before .before .before .before .before .before .before .before .before .before .args) .nodes .now) ((c .before .before .dos) .last .1 .0) ((c .before .before .dos) .result) (stats-down ((c .before .before .before .before .before .before .before .before .before .before .before .before .args) .stream .now) ((c .before .before .before .before .before .before .before .before .before .before .before .before .args) .ranking) ((c .before .before .before .before .before .before .before .before .before .before .before .before .args) .g) ((c .before .before .before .before .before .before .before .before .before .before .before .before .args) .c) ((c .before .before .before .before .before .before .before .before .before .if1) .left) ∙ by-kind ((c .before .before .before .before .before .before .before .before .before .before .before .before .args) .stream .now) (ranks ((c .before .before .before .before .before .before .before .before .before .before .before .before .args) .ranking)) 0 (readers ((c .before .before .before .before .before .before .before .before .before .before .before .before .args) .stream .now) (ranks ((c .before .before .before .before .before .before .before .before .before .before .before .before .args) .ranking)) (((c .before .before .before .before .before .before .before .before .before .before .before .before .args) .g) - 1)) (hold 0 0 none) again ((c .before .before .before .before .before .before .before .before .before .before .before .before .args) .c) (9, ifstat) ((21, whilestat) ∷ (1, dostat) ∷ (6, forstat) ∷ (16, repeatstat) ∷ (7, functionstat) ∷ (11, (on second (7 ∷ []) localfunction localstat)) ∷ (47, label′) ∷ (0, breakstat) ∷ (8, gotostat) ∷ []) exprstat (sym ((c .before .before .before .before .before .before .before .before .get-next) .ensures) ∙ (c .before .before .before .before .before .before .t) .given .1) ((c .before .before .before .before .match2) .keys3)) (omega (arith, (get-place ((c .before .before .before .before .before .before .before .before .before .before .before .before .args) .stream .now) ((c .before .before .before .before .before .before .before .before .before .before .before .before .args) .c) (sym ((c .before .before .before .before .before .before .before .before .get-next) .ensures) ∙ (c .before .before .before .before .before .before .t) .given .1)))) ((c .before .before .dos) .ensures)
+stat-returns-5 t c = moved ((c .before .before .before .before .before .before .before .before .before .before .before .before .args) .stream .now) (get-note ((c .before .before .before .before .before .before .before .before .before .before .before .before .args) .stream .now) ((c .before .before .before .before .before .before .before .before .before .before .before .before .args) .c) (sym ((c .before .before .before .before .before .before .before .before .get-next) .ensures) ∙ (c .before .before .before .before .before .before .t) .given .1)) ((c .before .before .before .before .before .before .before .before .before .before .before .before .args) .used) 0 ((c .before .before .before .before .before .before .before .before .before .before .before .before .args) .nodes .now) ((c .before .before .dos) .last .1 .0) ((c .before .before .dos) .result) (stats-down ((c .before .before .before .before .before .before .before .before .before .before .before .before .args) .stream .now) ((c .before .before .before .before .before .before .before .before .before .before .before .before .args) .ranking) ((c .before .before .before .before .before .before .before .before .before .before .before .before .args) .g) ((c .before .before .before .before .before .before .before .before .before .before .before .before .args) .c) ((c .before .before .before .before .before .before .before .before .before .if1) .left) ∙ by-kind ((c .before .before .before .before .before .before .before .before .before .before .before .before .args) .stream .now) (ranks ((c .before .before .before .before .before .before .before .before .before .before .before .before .args) .ranking)) 0 (readers ((c .before .before .before .before .before .before .before .before .before .before .before .before .args) .stream .now) (ranks ((c .before .before .before .before .before .before .before .before .before .before .before .before .args) .ranking)) (((c .before .before .before .before .before .before .before .before .before .before .before .before .args) .g) - 1)) (hold 0 0 none) again ((c .before .before .before .before .before .before .before .before .before .before .before .before .args) .c) (9, ifstat) ((21, whilestat) ∷ (1, dostat) ∷ (6, forstat) ∷ (16, repeatstat) ∷ (7, functionstat) ∷ (11, (on second (7 ∷ []) localfunction localstat)) ∷ (47, label′) ∷ (0, breakstat) ∷ (8, gotostat) ∷ []) exprstat (sym ((c .before .before .before .before .before .before .before .before .get-next) .ensures) ∙ (c .before .before .before .before .before .before .t) .given .1) ((c .before .before .before .before .match2) .keys3)) (omega (arith, (get-place ((c .before .before .before .before .before .before .before .before .before .before .before .before .args) .stream .now) ((c .before .before .before .before .before .before .before .before .before .before .before .before .args) .c) (sym ((c .before .before .before .before .before .before .before .before .get-next) .ensures) ∙ (c .before .before .before .before .before .before .t) .given .1)))) ((c .before .before .dos) .ensures)
 
 pub stat-same-length-4 : (t : ℕ) → stat-lts.Need-same-length-4 (
   deep-reads.Asked,
@@ -1266,7 +1266,7 @@ pub stat-returns-6 : (t : ℕ) → stat-lts.Need-returns-6 (
   estat.Post,
 ) (stat-at t) stat.Post
 unfolding statement′
-stat-returns-6 t c = moved ((c .before .before .before .before .before .before .before .before .before .before .before .before .args) .stream .now) ((c .before .before .before .before .before .before .before .before .before .before .before .before .args) .used) 0 ((c .before .before .before .before .before .before .before .before .before .before .before .before .args) .nodes .now) ((c .before .before .fors) .last .1 .0) ((c .before .before .fors) .result) (stats-down ((c .before .before .before .before .before .before .before .before .before .before .before .before .args) .stream .now) ((c .before .before .before .before .before .before .before .before .before .before .before .before .args) .ranking) ((c .before .before .before .before .before .before .before .before .before .before .before .before .args) .g) ((c .before .before .before .before .before .before .before .before .before .before .before .before .args) .c) ((c .before .before .before .before .before .before .before .before .before .if1) .left) ∙ by-kind ((c .before .before .before .before .before .before .before .before .before .before .before .before .args) .stream .now) (ranks ((c .before .before .before .before .before .before .before .before .before .before .before .before .args) .ranking)) 0 (readers ((c .before .before .before .before .before .before .before .before .before .before .before .before .args) .stream .now) (ranks ((c .before .before .before .before .before .before .before .before .before .before .before .before .args) .ranking)) (((c .before .before .before .before .before .before .before .before .before .before .before .before .args) .g) - 1)) (hold 0 0 none) again ((c .before .before .before .before .before .before .before .before .before .before .before .before .args) .c) (9, ifstat) ((21, whilestat) ∷ (1, dostat) ∷ (6, forstat) ∷ (16, repeatstat) ∷ (7, functionstat) ∷ (11, (on second (7 ∷ []) localfunction localstat)) ∷ (47, label′) ∷ (0, breakstat) ∷ (8, gotostat) ∷ []) exprstat (sym ((c .before .before .before .before .before .before .before .before .get-next) .ensures) ∙ (c .before .before .before .before .before .before .t) .given .1) ((c .before .before .before .before .match2) .keys4)) (omega (arith, (get-place ((c .before .before .before .before .before .before .before .before .before .before .before .before .args) .stream .now) ((c .before .before .before .before .before .before .before .before .before .before .before .before .args) .c) (sym ((c .before .before .before .before .before .before .before .before .get-next) .ensures) ∙ (c .before .before .before .before .before .before .t) .given .1)))) ((c .before .before .fors) .ensures)
+stat-returns-6 t c = moved ((c .before .before .before .before .before .before .before .before .before .before .before .before .args) .stream .now) (get-note ((c .before .before .before .before .before .before .before .before .before .before .before .before .args) .stream .now) ((c .before .before .before .before .before .before .before .before .before .before .before .before .args) .c) (sym ((c .before .before .before .before .before .before .before .before .get-next) .ensures) ∙ (c .before .before .before .before .before .before .t) .given .1)) ((c .before .before .before .before .before .before .before .before .before .before .before .before .args) .used) 0 ((c .before .before .before .before .before .before .before .before .before .before .before .before .args) .nodes .now) ((c .before .before .fors) .last .1 .0) ((c .before .before .fors) .result) (stats-down ((c .before .before .before .before .before .before .before .before .before .before .before .before .args) .stream .now) ((c .before .before .before .before .before .before .before .before .before .before .before .before .args) .ranking) ((c .before .before .before .before .before .before .before .before .before .before .before .before .args) .g) ((c .before .before .before .before .before .before .before .before .before .before .before .before .args) .c) ((c .before .before .before .before .before .before .before .before .before .if1) .left) ∙ by-kind ((c .before .before .before .before .before .before .before .before .before .before .before .before .args) .stream .now) (ranks ((c .before .before .before .before .before .before .before .before .before .before .before .before .args) .ranking)) 0 (readers ((c .before .before .before .before .before .before .before .before .before .before .before .before .args) .stream .now) (ranks ((c .before .before .before .before .before .before .before .before .before .before .before .before .args) .ranking)) (((c .before .before .before .before .before .before .before .before .before .before .before .before .args) .g) - 1)) (hold 0 0 none) again ((c .before .before .before .before .before .before .before .before .before .before .before .before .args) .c) (9, ifstat) ((21, whilestat) ∷ (1, dostat) ∷ (6, forstat) ∷ (16, repeatstat) ∷ (7, functionstat) ∷ (11, (on second (7 ∷ []) localfunction localstat)) ∷ (47, label′) ∷ (0, breakstat) ∷ (8, gotostat) ∷ []) exprstat (sym ((c .before .before .before .before .before .before .before .before .get-next) .ensures) ∙ (c .before .before .before .before .before .before .t) .given .1) ((c .before .before .before .before .match2) .keys4)) (omega (arith, (get-place ((c .before .before .before .before .before .before .before .before .before .before .before .before .args) .stream .now) ((c .before .before .before .before .before .before .before .before .before .before .before .before .args) .c) (sym ((c .before .before .before .before .before .before .before .before .get-next) .ensures) ∙ (c .before .before .before .before .before .before .t) .given .1)))) ((c .before .before .fors) .ensures)
 
 pub stat-same-length-5 : (t : ℕ) → stat-lts.Need-same-length-5 (
   deep-reads.Asked,
@@ -1335,7 +1335,7 @@ pub stat-returns-7 : (t : ℕ) → stat-lts.Need-returns-7 (
   estat.Post,
 ) (stat-at t) stat.Post
 unfolding statement′
-stat-returns-7 t c = moved ((c .before .before .before .before .before .before .before .before .before .before .before .before .args) .stream .now) ((c .before .before .before .before .before .before .before .before .before .before .before .before .args) .used) 0 ((c .before .before .before .before .before .before .before .before .before .before .before .before .args) .nodes .now) ((c .before .before .repeats) .last .1 .0) ((c .before .before .repeats) .result) (stats-down ((c .before .before .before .before .before .before .before .before .before .before .before .before .args) .stream .now) ((c .before .before .before .before .before .before .before .before .before .before .before .before .args) .ranking) ((c .before .before .before .before .before .before .before .before .before .before .before .before .args) .g) ((c .before .before .before .before .before .before .before .before .before .before .before .before .args) .c) ((c .before .before .before .before .before .before .before .before .before .if1) .left) ∙ by-kind ((c .before .before .before .before .before .before .before .before .before .before .before .before .args) .stream .now) (ranks ((c .before .before .before .before .before .before .before .before .before .before .before .before .args) .ranking)) 0 (readers ((c .before .before .before .before .before .before .before .before .before .before .before .before .args) .stream .now) (ranks ((c .before .before .before .before .before .before .before .before .before .before .before .before .args) .ranking)) (((c .before .before .before .before .before .before .before .before .before .before .before .before .args) .g) - 1)) (hold 0 0 none) again ((c .before .before .before .before .before .before .before .before .before .before .before .before .args) .c) (9, ifstat) ((21, whilestat) ∷ (1, dostat) ∷ (6, forstat) ∷ (16, repeatstat) ∷ (7, functionstat) ∷ (11, (on second (7 ∷ []) localfunction localstat)) ∷ (47, label′) ∷ (0, breakstat) ∷ (8, gotostat) ∷ []) exprstat (sym ((c .before .before .before .before .before .before .before .before .get-next) .ensures) ∙ (c .before .before .before .before .before .before .t) .given .1) ((c .before .before .before .before .match2) .keys5)) (omega (arith, (get-place ((c .before .before .before .before .before .before .before .before .before .before .before .before .args) .stream .now) ((c .before .before .before .before .before .before .before .before .before .before .before .before .args) .c) (sym ((c .before .before .before .before .before .before .before .before .get-next) .ensures) ∙ (c .before .before .before .before .before .before .t) .given .1)))) ((c .before .before .repeats) .ensures)
+stat-returns-7 t c = moved ((c .before .before .before .before .before .before .before .before .before .before .before .before .args) .stream .now) (get-note ((c .before .before .before .before .before .before .before .before .before .before .before .before .args) .stream .now) ((c .before .before .before .before .before .before .before .before .before .before .before .before .args) .c) (sym ((c .before .before .before .before .before .before .before .before .get-next) .ensures) ∙ (c .before .before .before .before .before .before .t) .given .1)) ((c .before .before .before .before .before .before .before .before .before .before .before .before .args) .used) 0 ((c .before .before .before .before .before .before .before .before .before .before .before .before .args) .nodes .now) ((c .before .before .repeats) .last .1 .0) ((c .before .before .repeats) .result) (stats-down ((c .before .before .before .before .before .before .before .before .before .before .before .before .args) .stream .now) ((c .before .before .before .before .before .before .before .before .before .before .before .before .args) .ranking) ((c .before .before .before .before .before .before .before .before .before .before .before .before .args) .g) ((c .before .before .before .before .before .before .before .before .before .before .before .before .args) .c) ((c .before .before .before .before .before .before .before .before .before .if1) .left) ∙ by-kind ((c .before .before .before .before .before .before .before .before .before .before .before .before .args) .stream .now) (ranks ((c .before .before .before .before .before .before .before .before .before .before .before .before .args) .ranking)) 0 (readers ((c .before .before .before .before .before .before .before .before .before .before .before .before .args) .stream .now) (ranks ((c .before .before .before .before .before .before .before .before .before .before .before .before .args) .ranking)) (((c .before .before .before .before .before .before .before .before .before .before .before .before .args) .g) - 1)) (hold 0 0 none) again ((c .before .before .before .before .before .before .before .before .before .before .before .before .args) .c) (9, ifstat) ((21, whilestat) ∷ (1, dostat) ∷ (6, forstat) ∷ (16, repeatstat) ∷ (7, functionstat) ∷ (11, (on second (7 ∷ []) localfunction localstat)) ∷ (47, label′) ∷ (0, breakstat) ∷ (8, gotostat) ∷ []) exprstat (sym ((c .before .before .before .before .before .before .before .before .get-next) .ensures) ∙ (c .before .before .before .before .before .before .t) .given .1) ((c .before .before .before .before .match2) .keys5)) (omega (arith, (get-place ((c .before .before .before .before .before .before .before .before .before .before .before .before .args) .stream .now) ((c .before .before .before .before .before .before .before .before .before .before .before .before .args) .c) (sym ((c .before .before .before .before .before .before .before .before .get-next) .ensures) ∙ (c .before .before .before .before .before .before .t) .given .1)))) ((c .before .before .repeats) .ensures)
 
 pub stat-same-length-6 : (t : ℕ) → stat-lts.Need-same-length-6 (
   deep-reads.Asked,
@@ -1404,7 +1404,7 @@ pub stat-returns-8 : (t : ℕ) → stat-lts.Need-returns-8 (
   estat.Post,
 ) (stat-at t) stat.Post
 unfolding statement′
-stat-returns-8 t c = moved ((c .before .before .before .before .before .before .before .before .before .before .before .before .args) .stream .now) ((c .before .before .before .before .before .before .before .before .before .before .before .before .args) .used) 0 ((c .before .before .before .before .before .before .before .before .before .before .before .before .args) .nodes .now) ((c .before .before .func) .last .1 .0) ((c .before .before .func) .result) (stats-down ((c .before .before .before .before .before .before .before .before .before .before .before .before .args) .stream .now) ((c .before .before .before .before .before .before .before .before .before .before .before .before .args) .ranking) ((c .before .before .before .before .before .before .before .before .before .before .before .before .args) .g) ((c .before .before .before .before .before .before .before .before .before .before .before .before .args) .c) ((c .before .before .before .before .before .before .before .before .before .if1) .left) ∙ by-kind ((c .before .before .before .before .before .before .before .before .before .before .before .before .args) .stream .now) (ranks ((c .before .before .before .before .before .before .before .before .before .before .before .before .args) .ranking)) 0 (readers ((c .before .before .before .before .before .before .before .before .before .before .before .before .args) .stream .now) (ranks ((c .before .before .before .before .before .before .before .before .before .before .before .before .args) .ranking)) (((c .before .before .before .before .before .before .before .before .before .before .before .before .args) .g) - 1)) (hold 0 0 none) again ((c .before .before .before .before .before .before .before .before .before .before .before .before .args) .c) (9, ifstat) ((21, whilestat) ∷ (1, dostat) ∷ (6, forstat) ∷ (16, repeatstat) ∷ (7, functionstat) ∷ (11, (on second (7 ∷ []) localfunction localstat)) ∷ (47, label′) ∷ (0, breakstat) ∷ (8, gotostat) ∷ []) exprstat (sym ((c .before .before .before .before .before .before .before .before .get-next) .ensures) ∙ (c .before .before .before .before .before .before .t) .given .1) ((c .before .before .before .before .match2) .keys6)) (omega (arith, (get-place ((c .before .before .before .before .before .before .before .before .before .before .before .before .args) .stream .now) ((c .before .before .before .before .before .before .before .before .before .before .before .before .args) .c) (sym ((c .before .before .before .before .before .before .before .before .get-next) .ensures) ∙ (c .before .before .before .before .before .before .t) .given .1)))) ((c .before .before .func) .ensures)
+stat-returns-8 t c = moved ((c .before .before .before .before .before .before .before .before .before .before .before .before .args) .stream .now) (get-note ((c .before .before .before .before .before .before .before .before .before .before .before .before .args) .stream .now) ((c .before .before .before .before .before .before .before .before .before .before .before .before .args) .c) (sym ((c .before .before .before .before .before .before .before .before .get-next) .ensures) ∙ (c .before .before .before .before .before .before .t) .given .1)) ((c .before .before .before .before .before .before .before .before .before .before .before .before .args) .used) 0 ((c .before .before .before .before .before .before .before .before .before .before .before .before .args) .nodes .now) ((c .before .before .func) .last .1 .0) ((c .before .before .func) .result) (stats-down ((c .before .before .before .before .before .before .before .before .before .before .before .before .args) .stream .now) ((c .before .before .before .before .before .before .before .before .before .before .before .before .args) .ranking) ((c .before .before .before .before .before .before .before .before .before .before .before .before .args) .g) ((c .before .before .before .before .before .before .before .before .before .before .before .before .args) .c) ((c .before .before .before .before .before .before .before .before .before .if1) .left) ∙ by-kind ((c .before .before .before .before .before .before .before .before .before .before .before .before .args) .stream .now) (ranks ((c .before .before .before .before .before .before .before .before .before .before .before .before .args) .ranking)) 0 (readers ((c .before .before .before .before .before .before .before .before .before .before .before .before .args) .stream .now) (ranks ((c .before .before .before .before .before .before .before .before .before .before .before .before .args) .ranking)) (((c .before .before .before .before .before .before .before .before .before .before .before .before .args) .g) - 1)) (hold 0 0 none) again ((c .before .before .before .before .before .before .before .before .before .before .before .before .args) .c) (9, ifstat) ((21, whilestat) ∷ (1, dostat) ∷ (6, forstat) ∷ (16, repeatstat) ∷ (7, functionstat) ∷ (11, (on second (7 ∷ []) localfunction localstat)) ∷ (47, label′) ∷ (0, breakstat) ∷ (8, gotostat) ∷ []) exprstat (sym ((c .before .before .before .before .before .before .before .before .get-next) .ensures) ∙ (c .before .before .before .before .before .before .t) .given .1) ((c .before .before .before .before .match2) .keys6)) (omega (arith, (get-place ((c .before .before .before .before .before .before .before .before .before .before .before .before .args) .stream .now) ((c .before .before .before .before .before .before .before .before .before .before .before .before .args) .c) (sym ((c .before .before .before .before .before .before .before .before .get-next) .ensures) ∙ (c .before .before .before .before .before .before .t) .given .1)))) ((c .before .before .func) .ensures)
 
 pub stat-same-length-7 : (t : ℕ) → stat-lts.Need-same-length-7 (
   deep-reads.Asked,
@@ -1473,7 +1473,7 @@ pub stat-returns-9 : (t : ℕ) → stat-lts.Need-returns-9 (
   estat.Post,
 ) (stat-at t) stat.Post
 unfolding statement′
-stat-returns-9 t c = moved ((c .before .before .before .before .before .before .before .before .before .before .before .before .before .before .before .args) .stream .now) ((c .before .before .before .before .before .before .before .before .before .before .before .before .before .before .before .args) .used) 0 ((c .before .before .before .before .before .before .before .before .before .before .before .before .before .before .before .args) .nodes .now) ((c .before .before .lfunc) .last .1 .0) ((c .before .before .lfunc) .result) (stats-down ((c .before .before .before .before .before .before .before .before .before .before .before .before .before .before .before .args) .stream .now) ((c .before .before .before .before .before .before .before .before .before .before .before .before .before .before .before .args) .ranking) ((c .before .before .before .before .before .before .before .before .before .before .before .before .before .before .before .args) .g) ((c .before .before .before .before .before .before .before .before .before .before .before .before .before .before .before .args) .c) ((c .before .before .before .before .before .before .before .before .before .before .before .before .if1) .left) ∙ by-kind ((c .before .before .before .before .before .before .before .before .before .before .before .before .before .before .before .args) .stream .now) (ranks ((c .before .before .before .before .before .before .before .before .before .before .before .before .before .before .before .args) .ranking)) 0 (readers ((c .before .before .before .before .before .before .before .before .before .before .before .before .before .before .before .args) .stream .now) (ranks ((c .before .before .before .before .before .before .before .before .before .before .before .before .before .before .before .args) .ranking)) (((c .before .before .before .before .before .before .before .before .before .before .before .before .before .before .before .args) .g) - 1)) (hold 0 0 none) again ((c .before .before .before .before .before .before .before .before .before .before .before .before .before .before .before .args) .c) (9, ifstat) ((21, whilestat) ∷ (1, dostat) ∷ (6, forstat) ∷ (16, repeatstat) ∷ (7, functionstat) ∷ (11, (on second (7 ∷ []) localfunction localstat)) ∷ (47, label′) ∷ (0, breakstat) ∷ (8, gotostat) ∷ []) exprstat (sym ((c .before .before .before .before .before .before .before .before .before .before .before .get-next) .ensures) ∙ (c .before .before .before .before .before .before .before .before .before .t) .given .1) ((c .before .before .before .before .before .before .before .match2) .keys7) ∙ second-in ((c .before .before .before .before .before .before .before .before .before .before .before .before .before .before .before .args) .stream .now) (ranks ((c .before .before .before .before .before .before .before .before .before .before .before .before .before .before .before .args) .ranking)) 0 (readers ((c .before .before .before .before .before .before .before .before .before .before .before .before .before .before .before .args) .stream .now) (ranks ((c .before .before .before .before .before .before .before .before .before .before .before .before .before .before .before .args) .ranking)) (((c .before .before .before .before .before .before .before .before .before .before .before .before .before .before .before .args) .g) - 1)) (hold 0 0 none) again ((c .before .before .before .before .before .before .before .before .before .t) .given .0 .1 .0) 7 localfunction localstat (λ z. omega arith) ((c .before .before .before .before .before .before .check-ahead) .ensures) ((c .before .before .before .before .if2) .taken)) (omega (arith, (check-place ((c .before .before .before .before .before .before .before .before .before .before .before .before .before .before .before .args) .stream .now) ((c .before .before .before .before .before .before .before .before .before .t) .given .0 .1 .0) 1 7 ((c .before .before .before .before .before .before .check-ahead) .ensures)), (get-place ((c .before .before .before .before .before .before .before .before .before .before .before .before .before .before .before .args) .stream .now) ((c .before .before .before .before .before .before .before .before .before .before .before .before .before .before .before .args) .c) (sym ((c .before .before .before .before .before .before .before .before .before .before .before .get-next) .ensures) ∙ (c .before .before .before .before .before .before .before .before .before .t) .given .1)))) ((c .before .before .lfunc) .ensures)
+stat-returns-9 t c = moved ((c .before .before .before .before .before .before .before .before .before .before .before .before .before .before .before .args) .stream .now) ((check-note ((c .before .before .before .before .before .before .before .before .before .before .before .before .before .before .before .args) .stream .now) ((c .before .before .before .before .before .before .before .before .before .t) .given .0 .1 .0) 1 7 ((c .before .before .before .before .before .before .check-ahead) .ensures)) ∙ (get-note ((c .before .before .before .before .before .before .before .before .before .before .before .before .before .before .before .args) .stream .now) ((c .before .before .before .before .before .before .before .before .before .before .before .before .before .before .before .args) .c) (sym ((c .before .before .before .before .before .before .before .before .before .before .before .get-next) .ensures) ∙ (c .before .before .before .before .before .before .before .before .before .t) .given .1))) ((c .before .before .before .before .before .before .before .before .before .before .before .before .before .before .before .args) .used) 0 ((c .before .before .before .before .before .before .before .before .before .before .before .before .before .before .before .args) .nodes .now) ((c .before .before .lfunc) .last .1 .0) ((c .before .before .lfunc) .result) (stats-down ((c .before .before .before .before .before .before .before .before .before .before .before .before .before .before .before .args) .stream .now) ((c .before .before .before .before .before .before .before .before .before .before .before .before .before .before .before .args) .ranking) ((c .before .before .before .before .before .before .before .before .before .before .before .before .before .before .before .args) .g) ((c .before .before .before .before .before .before .before .before .before .before .before .before .before .before .before .args) .c) ((c .before .before .before .before .before .before .before .before .before .before .before .before .if1) .left) ∙ by-kind ((c .before .before .before .before .before .before .before .before .before .before .before .before .before .before .before .args) .stream .now) (ranks ((c .before .before .before .before .before .before .before .before .before .before .before .before .before .before .before .args) .ranking)) 0 (readers ((c .before .before .before .before .before .before .before .before .before .before .before .before .before .before .before .args) .stream .now) (ranks ((c .before .before .before .before .before .before .before .before .before .before .before .before .before .before .before .args) .ranking)) (((c .before .before .before .before .before .before .before .before .before .before .before .before .before .before .before .args) .g) - 1)) (hold 0 0 none) again ((c .before .before .before .before .before .before .before .before .before .before .before .before .before .before .before .args) .c) (9, ifstat) ((21, whilestat) ∷ (1, dostat) ∷ (6, forstat) ∷ (16, repeatstat) ∷ (7, functionstat) ∷ (11, (on second (7 ∷ []) localfunction localstat)) ∷ (47, label′) ∷ (0, breakstat) ∷ (8, gotostat) ∷ []) exprstat (sym ((c .before .before .before .before .before .before .before .before .before .before .before .get-next) .ensures) ∙ (c .before .before .before .before .before .before .before .before .before .t) .given .1) ((c .before .before .before .before .before .before .before .match2) .keys7) ∙ second-in ((c .before .before .before .before .before .before .before .before .before .before .before .before .before .before .before .args) .stream .now) (ranks ((c .before .before .before .before .before .before .before .before .before .before .before .before .before .before .before .args) .ranking)) 0 (readers ((c .before .before .before .before .before .before .before .before .before .before .before .before .before .before .before .args) .stream .now) (ranks ((c .before .before .before .before .before .before .before .before .before .before .before .before .before .before .before .args) .ranking)) (((c .before .before .before .before .before .before .before .before .before .before .before .before .before .before .before .args) .g) - 1)) (hold 0 0 none) again ((c .before .before .before .before .before .before .before .before .before .t) .given .0 .1 .0) 7 localfunction localstat (λ z. omega arith) ((c .before .before .before .before .before .before .check-ahead) .ensures) ((c .before .before .before .before .if2) .taken)) (omega (arith, (check-place ((c .before .before .before .before .before .before .before .before .before .before .before .before .before .before .before .args) .stream .now) ((c .before .before .before .before .before .before .before .before .before .t) .given .0 .1 .0) 1 7 ((c .before .before .before .before .before .before .check-ahead) .ensures)), (get-place ((c .before .before .before .before .before .before .before .before .before .before .before .before .before .before .before .args) .stream .now) ((c .before .before .before .before .before .before .before .before .before .before .before .before .before .before .before .args) .c) (sym ((c .before .before .before .before .before .before .before .before .before .before .before .get-next) .ensures) ∙ (c .before .before .before .before .before .before .before .before .before .t) .given .1)))) ((c .before .before .lfunc) .ensures)
 
 pub stat-same-length-8 : (t : ℕ) → stat-lts.Need-same-length-8 (
   deep-reads.Asked,
@@ -1542,7 +1542,7 @@ pub stat-returns-10 : (t : ℕ) → stat-lts.Need-returns-10 (
   estat.Post,
 ) (stat-at t) stat.Post
 unfolding statement′
-stat-returns-10 t c = moved ((c .before .before .before .before .before .before .before .before .before .before .before .before .before .before .before .args) .stream .now) ((c .before .before .before .before .before .before .before .before .before .before .before .before .before .before .before .args) .used) 0 ((c .before .before .before .before .before .before .before .before .before .before .before .before .before .before .before .args) .nodes .now) ((c .before .before .locs) .last .1 .0) ((c .before .before .locs) .result) (stats-down ((c .before .before .before .before .before .before .before .before .before .before .before .before .before .before .before .args) .stream .now) ((c .before .before .before .before .before .before .before .before .before .before .before .before .before .before .before .args) .ranking) ((c .before .before .before .before .before .before .before .before .before .before .before .before .before .before .before .args) .g) ((c .before .before .before .before .before .before .before .before .before .before .before .before .before .before .before .args) .c) ((c .before .before .before .before .before .before .before .before .before .before .before .before .if1) .left) ∙ by-kind ((c .before .before .before .before .before .before .before .before .before .before .before .before .before .before .before .args) .stream .now) (ranks ((c .before .before .before .before .before .before .before .before .before .before .before .before .before .before .before .args) .ranking)) 0 (readers ((c .before .before .before .before .before .before .before .before .before .before .before .before .before .before .before .args) .stream .now) (ranks ((c .before .before .before .before .before .before .before .before .before .before .before .before .before .before .before .args) .ranking)) (((c .before .before .before .before .before .before .before .before .before .before .before .before .before .before .before .args) .g) - 1)) (hold 0 0 none) again ((c .before .before .before .before .before .before .before .before .before .before .before .before .before .before .before .args) .c) (9, ifstat) ((21, whilestat) ∷ (1, dostat) ∷ (6, forstat) ∷ (16, repeatstat) ∷ (7, functionstat) ∷ (11, (on second (7 ∷ []) localfunction localstat)) ∷ (47, label′) ∷ (0, breakstat) ∷ (8, gotostat) ∷ []) exprstat (sym ((c .before .before .before .before .before .before .before .before .before .before .before .get-next) .ensures) ∙ (c .before .before .before .before .before .before .before .before .before .t) .given .1) ((c .before .before .before .before .before .before .before .match2) .keys7) ∙ second-out ((c .before .before .before .before .before .before .before .before .before .before .before .before .before .before .before .args) .stream .now) (ranks ((c .before .before .before .before .before .before .before .before .before .before .before .before .before .before .before .args) .ranking)) 0 (readers ((c .before .before .before .before .before .before .before .before .before .before .before .before .before .before .before .args) .stream .now) (ranks ((c .before .before .before .before .before .before .before .before .before .before .before .before .before .before .before .args) .ranking)) (((c .before .before .before .before .before .before .before .before .before .before .before .before .before .before .before .args) .g) - 1)) (hold 0 0 none) again ((c .before .before .before .before .before .before .before .before .before .t) .given .0 .1 .0) 7 localfunction localstat (λ z. omega arith) ((c .before .before .before .before .before .before .check-ahead) .ensures) ((c .before .before .before .before .if2) .left)) (omega (arith, (check-place ((c .before .before .before .before .before .before .before .before .before .before .before .before .before .before .before .args) .stream .now) ((c .before .before .before .before .before .before .before .before .before .t) .given .0 .1 .0) 1 7 ((c .before .before .before .before .before .before .check-ahead) .ensures)), (get-place ((c .before .before .before .before .before .before .before .before .before .before .before .before .before .before .before .args) .stream .now) ((c .before .before .before .before .before .before .before .before .before .before .before .before .before .before .before .args) .c) (sym ((c .before .before .before .before .before .before .before .before .before .before .before .get-next) .ensures) ∙ (c .before .before .before .before .before .before .before .before .before .t) .given .1)))) ((c .before .before .locs) .ensures)
+stat-returns-10 t c = moved ((c .before .before .before .before .before .before .before .before .before .before .before .before .before .before .before .args) .stream .now) ((check-note ((c .before .before .before .before .before .before .before .before .before .before .before .before .before .before .before .args) .stream .now) ((c .before .before .before .before .before .before .before .before .before .t) .given .0 .1 .0) 1 7 ((c .before .before .before .before .before .before .check-ahead) .ensures)) ∙ (get-note ((c .before .before .before .before .before .before .before .before .before .before .before .before .before .before .before .args) .stream .now) ((c .before .before .before .before .before .before .before .before .before .before .before .before .before .before .before .args) .c) (sym ((c .before .before .before .before .before .before .before .before .before .before .before .get-next) .ensures) ∙ (c .before .before .before .before .before .before .before .before .before .t) .given .1))) ((c .before .before .before .before .before .before .before .before .before .before .before .before .before .before .before .args) .used) 0 ((c .before .before .before .before .before .before .before .before .before .before .before .before .before .before .before .args) .nodes .now) ((c .before .before .locs) .last .1 .0) ((c .before .before .locs) .result) (stats-down ((c .before .before .before .before .before .before .before .before .before .before .before .before .before .before .before .args) .stream .now) ((c .before .before .before .before .before .before .before .before .before .before .before .before .before .before .before .args) .ranking) ((c .before .before .before .before .before .before .before .before .before .before .before .before .before .before .before .args) .g) ((c .before .before .before .before .before .before .before .before .before .before .before .before .before .before .before .args) .c) ((c .before .before .before .before .before .before .before .before .before .before .before .before .if1) .left) ∙ by-kind ((c .before .before .before .before .before .before .before .before .before .before .before .before .before .before .before .args) .stream .now) (ranks ((c .before .before .before .before .before .before .before .before .before .before .before .before .before .before .before .args) .ranking)) 0 (readers ((c .before .before .before .before .before .before .before .before .before .before .before .before .before .before .before .args) .stream .now) (ranks ((c .before .before .before .before .before .before .before .before .before .before .before .before .before .before .before .args) .ranking)) (((c .before .before .before .before .before .before .before .before .before .before .before .before .before .before .before .args) .g) - 1)) (hold 0 0 none) again ((c .before .before .before .before .before .before .before .before .before .before .before .before .before .before .before .args) .c) (9, ifstat) ((21, whilestat) ∷ (1, dostat) ∷ (6, forstat) ∷ (16, repeatstat) ∷ (7, functionstat) ∷ (11, (on second (7 ∷ []) localfunction localstat)) ∷ (47, label′) ∷ (0, breakstat) ∷ (8, gotostat) ∷ []) exprstat (sym ((c .before .before .before .before .before .before .before .before .before .before .before .get-next) .ensures) ∙ (c .before .before .before .before .before .before .before .before .before .t) .given .1) ((c .before .before .before .before .before .before .before .match2) .keys7) ∙ second-out ((c .before .before .before .before .before .before .before .before .before .before .before .before .before .before .before .args) .stream .now) (ranks ((c .before .before .before .before .before .before .before .before .before .before .before .before .before .before .before .args) .ranking)) 0 (readers ((c .before .before .before .before .before .before .before .before .before .before .before .before .before .before .before .args) .stream .now) (ranks ((c .before .before .before .before .before .before .before .before .before .before .before .before .before .before .before .args) .ranking)) (((c .before .before .before .before .before .before .before .before .before .before .before .before .before .before .before .args) .g) - 1)) (hold 0 0 none) again ((c .before .before .before .before .before .before .before .before .before .t) .given .0 .1 .0) 7 localfunction localstat (λ z. omega arith) ((c .before .before .before .before .before .before .check-ahead) .ensures) ((c .before .before .before .before .if2) .left)) (omega (arith, (check-place ((c .before .before .before .before .before .before .before .before .before .before .before .before .before .before .before .args) .stream .now) ((c .before .before .before .before .before .before .before .before .before .t) .given .0 .1 .0) 1 7 ((c .before .before .before .before .before .before .check-ahead) .ensures)), (get-place ((c .before .before .before .before .before .before .before .before .before .before .before .before .before .before .before .args) .stream .now) ((c .before .before .before .before .before .before .before .before .before .before .before .before .before .before .before .args) .c) (sym ((c .before .before .before .before .before .before .before .before .before .before .before .get-next) .ensures) ∙ (c .before .before .before .before .before .before .before .before .before .t) .given .1)))) ((c .before .before .locs) .ensures)
 
 pub stat-same-length-9 : (t : ℕ) → stat-lts.Need-same-length-9 (
   deep-reads.Asked,
@@ -1611,7 +1611,7 @@ pub stat-returns-11 : (t : ℕ) → stat-lts.Need-returns-11 (
   estat.Post,
 ) (stat-at t) stat.Post
 unfolding statement′
-stat-returns-11 t c = moved ((c .before .before .before .before .before .before .before .before .before .before .before .before .args) .stream .now) ((c .before .before .before .before .before .before .before .before .before .before .before .before .args) .used) 0 ((c .before .before .before .before .before .before .before .before .before .before .before .before .args) .nodes .now) ((c .before .before .label) .last .1 .0) ((c .before .before .label) .result) (stats-down ((c .before .before .before .before .before .before .before .before .before .before .before .before .args) .stream .now) ((c .before .before .before .before .before .before .before .before .before .before .before .before .args) .ranking) ((c .before .before .before .before .before .before .before .before .before .before .before .before .args) .g) ((c .before .before .before .before .before .before .before .before .before .before .before .before .args) .c) ((c .before .before .before .before .before .before .before .before .before .if1) .left) ∙ by-kind ((c .before .before .before .before .before .before .before .before .before .before .before .before .args) .stream .now) (ranks ((c .before .before .before .before .before .before .before .before .before .before .before .before .args) .ranking)) 0 (readers ((c .before .before .before .before .before .before .before .before .before .before .before .before .args) .stream .now) (ranks ((c .before .before .before .before .before .before .before .before .before .before .before .before .args) .ranking)) (((c .before .before .before .before .before .before .before .before .before .before .before .before .args) .g) - 1)) (hold 0 0 none) again ((c .before .before .before .before .before .before .before .before .before .before .before .before .args) .c) (9, ifstat) ((21, whilestat) ∷ (1, dostat) ∷ (6, forstat) ∷ (16, repeatstat) ∷ (7, functionstat) ∷ (11, (on second (7 ∷ []) localfunction localstat)) ∷ (47, label′) ∷ (0, breakstat) ∷ (8, gotostat) ∷ []) exprstat (sym ((c .before .before .before .before .before .before .before .before .get-next) .ensures) ∙ (c .before .before .before .before .before .before .t) .given .1) ((c .before .before .before .before .match2) .keys8)) (omega (arith, (get-place ((c .before .before .before .before .before .before .before .before .before .before .before .before .args) .stream .now) ((c .before .before .before .before .before .before .before .before .before .before .before .before .args) .c) (sym ((c .before .before .before .before .before .before .before .before .get-next) .ensures) ∙ (c .before .before .before .before .before .before .t) .given .1)))) ((c .before .before .label) .ensures ((c .before .before .before .before .before .before .before .before .before .before .before .before .args) .ranking) (((c .before .before .before .before .before .before .before .before .before .before .before .before .args) .g) - 1))
+stat-returns-11 t c = moved ((c .before .before .before .before .before .before .before .before .before .before .before .before .args) .stream .now) (get-note ((c .before .before .before .before .before .before .before .before .before .before .before .before .args) .stream .now) ((c .before .before .before .before .before .before .before .before .before .before .before .before .args) .c) (sym ((c .before .before .before .before .before .before .before .before .get-next) .ensures) ∙ (c .before .before .before .before .before .before .t) .given .1)) ((c .before .before .before .before .before .before .before .before .before .before .before .before .args) .used) 0 ((c .before .before .before .before .before .before .before .before .before .before .before .before .args) .nodes .now) ((c .before .before .label) .last .1 .0) ((c .before .before .label) .result) (stats-down ((c .before .before .before .before .before .before .before .before .before .before .before .before .args) .stream .now) ((c .before .before .before .before .before .before .before .before .before .before .before .before .args) .ranking) ((c .before .before .before .before .before .before .before .before .before .before .before .before .args) .g) ((c .before .before .before .before .before .before .before .before .before .before .before .before .args) .c) ((c .before .before .before .before .before .before .before .before .before .if1) .left) ∙ by-kind ((c .before .before .before .before .before .before .before .before .before .before .before .before .args) .stream .now) (ranks ((c .before .before .before .before .before .before .before .before .before .before .before .before .args) .ranking)) 0 (readers ((c .before .before .before .before .before .before .before .before .before .before .before .before .args) .stream .now) (ranks ((c .before .before .before .before .before .before .before .before .before .before .before .before .args) .ranking)) (((c .before .before .before .before .before .before .before .before .before .before .before .before .args) .g) - 1)) (hold 0 0 none) again ((c .before .before .before .before .before .before .before .before .before .before .before .before .args) .c) (9, ifstat) ((21, whilestat) ∷ (1, dostat) ∷ (6, forstat) ∷ (16, repeatstat) ∷ (7, functionstat) ∷ (11, (on second (7 ∷ []) localfunction localstat)) ∷ (47, label′) ∷ (0, breakstat) ∷ (8, gotostat) ∷ []) exprstat (sym ((c .before .before .before .before .before .before .before .before .get-next) .ensures) ∙ (c .before .before .before .before .before .before .t) .given .1) ((c .before .before .before .before .match2) .keys8)) (omega (arith, (get-place ((c .before .before .before .before .before .before .before .before .before .before .before .before .args) .stream .now) ((c .before .before .before .before .before .before .before .before .before .before .before .before .args) .c) (sym ((c .before .before .before .before .before .before .before .before .get-next) .ensures) ∙ (c .before .before .before .before .before .before .t) .given .1)))) ((c .before .before .label) .ensures ((c .before .before .before .before .before .before .before .before .before .before .before .before .args) .ranking) (((c .before .before .before .before .before .before .before .before .before .before .before .before .args) .g) - 1))
 
 pub stat-same-length-10 : (t : ℕ) → stat-lts.Need-same-length-10 (
   deep-reads.Asked,
@@ -1680,7 +1680,7 @@ pub stat-returns-12 : (t : ℕ) → stat-lts.Need-returns-12 (
   estat.Post,
 ) (stat-at t) stat.Post
 unfolding statement′
-stat-returns-12 t c = moved ((c .before .before .before .before .before .before .before .before .before .before .before .before .args) .stream .now) ((c .before .before .before .before .before .before .before .before .before .before .before .before .args) .used) 0 ((c .before .before .before .before .before .before .before .before .before .before .before .before .args) .nodes .now) ((c .before .before .stop) .last .1 .0) ((c .before .before .stop) .result) (stats-down ((c .before .before .before .before .before .before .before .before .before .before .before .before .args) .stream .now) ((c .before .before .before .before .before .before .before .before .before .before .before .before .args) .ranking) ((c .before .before .before .before .before .before .before .before .before .before .before .before .args) .g) ((c .before .before .before .before .before .before .before .before .before .before .before .before .args) .c) ((c .before .before .before .before .before .before .before .before .before .if1) .left) ∙ by-kind ((c .before .before .before .before .before .before .before .before .before .before .before .before .args) .stream .now) (ranks ((c .before .before .before .before .before .before .before .before .before .before .before .before .args) .ranking)) 0 (readers ((c .before .before .before .before .before .before .before .before .before .before .before .before .args) .stream .now) (ranks ((c .before .before .before .before .before .before .before .before .before .before .before .before .args) .ranking)) (((c .before .before .before .before .before .before .before .before .before .before .before .before .args) .g) - 1)) (hold 0 0 none) again ((c .before .before .before .before .before .before .before .before .before .before .before .before .args) .c) (9, ifstat) ((21, whilestat) ∷ (1, dostat) ∷ (6, forstat) ∷ (16, repeatstat) ∷ (7, functionstat) ∷ (11, (on second (7 ∷ []) localfunction localstat)) ∷ (47, label′) ∷ (0, breakstat) ∷ (8, gotostat) ∷ []) exprstat (sym ((c .before .before .before .before .before .before .before .before .get-next) .ensures) ∙ (c .before .before .before .before .before .before .t) .given .1) ((c .before .before .before .before .match2) .keys9)) (omega (arith, (get-place ((c .before .before .before .before .before .before .before .before .before .before .before .before .args) .stream .now) ((c .before .before .before .before .before .before .before .before .before .before .before .before .args) .c) (sym ((c .before .before .before .before .before .before .before .before .get-next) .ensures) ∙ (c .before .before .before .before .before .before .t) .given .1)))) ((c .before .before .stop) .ensures ((c .before .before .before .before .before .before .before .before .before .before .before .before .args) .ranking) (((c .before .before .before .before .before .before .before .before .before .before .before .before .args) .g) - 1))
+stat-returns-12 t c = moved ((c .before .before .before .before .before .before .before .before .before .before .before .before .args) .stream .now) (get-note ((c .before .before .before .before .before .before .before .before .before .before .before .before .args) .stream .now) ((c .before .before .before .before .before .before .before .before .before .before .before .before .args) .c) (sym ((c .before .before .before .before .before .before .before .before .get-next) .ensures) ∙ (c .before .before .before .before .before .before .t) .given .1)) ((c .before .before .before .before .before .before .before .before .before .before .before .before .args) .used) 0 ((c .before .before .before .before .before .before .before .before .before .before .before .before .args) .nodes .now) ((c .before .before .stop) .last .1 .0) ((c .before .before .stop) .result) (stats-down ((c .before .before .before .before .before .before .before .before .before .before .before .before .args) .stream .now) ((c .before .before .before .before .before .before .before .before .before .before .before .before .args) .ranking) ((c .before .before .before .before .before .before .before .before .before .before .before .before .args) .g) ((c .before .before .before .before .before .before .before .before .before .before .before .before .args) .c) ((c .before .before .before .before .before .before .before .before .before .if1) .left) ∙ by-kind ((c .before .before .before .before .before .before .before .before .before .before .before .before .args) .stream .now) (ranks ((c .before .before .before .before .before .before .before .before .before .before .before .before .args) .ranking)) 0 (readers ((c .before .before .before .before .before .before .before .before .before .before .before .before .args) .stream .now) (ranks ((c .before .before .before .before .before .before .before .before .before .before .before .before .args) .ranking)) (((c .before .before .before .before .before .before .before .before .before .before .before .before .args) .g) - 1)) (hold 0 0 none) again ((c .before .before .before .before .before .before .before .before .before .before .before .before .args) .c) (9, ifstat) ((21, whilestat) ∷ (1, dostat) ∷ (6, forstat) ∷ (16, repeatstat) ∷ (7, functionstat) ∷ (11, (on second (7 ∷ []) localfunction localstat)) ∷ (47, label′) ∷ (0, breakstat) ∷ (8, gotostat) ∷ []) exprstat (sym ((c .before .before .before .before .before .before .before .before .get-next) .ensures) ∙ (c .before .before .before .before .before .before .t) .given .1) ((c .before .before .before .before .match2) .keys9)) (omega (arith, (get-place ((c .before .before .before .before .before .before .before .before .before .before .before .before .args) .stream .now) ((c .before .before .before .before .before .before .before .before .before .before .before .before .args) .c) (sym ((c .before .before .before .before .before .before .before .before .get-next) .ensures) ∙ (c .before .before .before .before .before .before .t) .given .1)))) ((c .before .before .stop) .ensures ((c .before .before .before .before .before .before .before .before .before .before .before .before .args) .ranking) (((c .before .before .before .before .before .before .before .before .before .before .before .before .args) .g) - 1))
 
 pub stat-same-length-11 : (t : ℕ) → stat-lts.Need-same-length-11 (
   deep-reads.Asked,
@@ -1749,7 +1749,7 @@ pub stat-returns-13 : (t : ℕ) → stat-lts.Need-returns-13 (
   estat.Post,
 ) (stat-at t) stat.Post
 unfolding statement′
-stat-returns-13 t c = moved ((c .before .before .before .before .before .before .before .before .before .before .before .before .args) .stream .now) ((c .before .before .before .before .before .before .before .before .before .before .before .before .args) .used) 0 ((c .before .before .before .before .before .before .before .before .before .before .before .before .args) .nodes .now) ((c .before .before .goto) .last .1 .0) ((c .before .before .goto) .result) (stats-down ((c .before .before .before .before .before .before .before .before .before .before .before .before .args) .stream .now) ((c .before .before .before .before .before .before .before .before .before .before .before .before .args) .ranking) ((c .before .before .before .before .before .before .before .before .before .before .before .before .args) .g) ((c .before .before .before .before .before .before .before .before .before .before .before .before .args) .c) ((c .before .before .before .before .before .before .before .before .before .if1) .left) ∙ by-kind ((c .before .before .before .before .before .before .before .before .before .before .before .before .args) .stream .now) (ranks ((c .before .before .before .before .before .before .before .before .before .before .before .before .args) .ranking)) 0 (readers ((c .before .before .before .before .before .before .before .before .before .before .before .before .args) .stream .now) (ranks ((c .before .before .before .before .before .before .before .before .before .before .before .before .args) .ranking)) (((c .before .before .before .before .before .before .before .before .before .before .before .before .args) .g) - 1)) (hold 0 0 none) again ((c .before .before .before .before .before .before .before .before .before .before .before .before .args) .c) (9, ifstat) ((21, whilestat) ∷ (1, dostat) ∷ (6, forstat) ∷ (16, repeatstat) ∷ (7, functionstat) ∷ (11, (on second (7 ∷ []) localfunction localstat)) ∷ (47, label′) ∷ (0, breakstat) ∷ (8, gotostat) ∷ []) exprstat (sym ((c .before .before .before .before .before .before .before .before .get-next) .ensures) ∙ (c .before .before .before .before .before .before .t) .given .1) ((c .before .before .before .before .match2) .keys10)) (omega (arith, (get-place ((c .before .before .before .before .before .before .before .before .before .before .before .before .args) .stream .now) ((c .before .before .before .before .before .before .before .before .before .before .before .before .args) .c) (sym ((c .before .before .before .before .before .before .before .before .get-next) .ensures) ∙ (c .before .before .before .before .before .before .t) .given .1)))) ((c .before .before .goto) .ensures ((c .before .before .before .before .before .before .before .before .before .before .before .before .args) .ranking) (((c .before .before .before .before .before .before .before .before .before .before .before .before .args) .g) - 1))
+stat-returns-13 t c = moved ((c .before .before .before .before .before .before .before .before .before .before .before .before .args) .stream .now) (get-note ((c .before .before .before .before .before .before .before .before .before .before .before .before .args) .stream .now) ((c .before .before .before .before .before .before .before .before .before .before .before .before .args) .c) (sym ((c .before .before .before .before .before .before .before .before .get-next) .ensures) ∙ (c .before .before .before .before .before .before .t) .given .1)) ((c .before .before .before .before .before .before .before .before .before .before .before .before .args) .used) 0 ((c .before .before .before .before .before .before .before .before .before .before .before .before .args) .nodes .now) ((c .before .before .goto) .last .1 .0) ((c .before .before .goto) .result) (stats-down ((c .before .before .before .before .before .before .before .before .before .before .before .before .args) .stream .now) ((c .before .before .before .before .before .before .before .before .before .before .before .before .args) .ranking) ((c .before .before .before .before .before .before .before .before .before .before .before .before .args) .g) ((c .before .before .before .before .before .before .before .before .before .before .before .before .args) .c) ((c .before .before .before .before .before .before .before .before .before .if1) .left) ∙ by-kind ((c .before .before .before .before .before .before .before .before .before .before .before .before .args) .stream .now) (ranks ((c .before .before .before .before .before .before .before .before .before .before .before .before .args) .ranking)) 0 (readers ((c .before .before .before .before .before .before .before .before .before .before .before .before .args) .stream .now) (ranks ((c .before .before .before .before .before .before .before .before .before .before .before .before .args) .ranking)) (((c .before .before .before .before .before .before .before .before .before .before .before .before .args) .g) - 1)) (hold 0 0 none) again ((c .before .before .before .before .before .before .before .before .before .before .before .before .args) .c) (9, ifstat) ((21, whilestat) ∷ (1, dostat) ∷ (6, forstat) ∷ (16, repeatstat) ∷ (7, functionstat) ∷ (11, (on second (7 ∷ []) localfunction localstat)) ∷ (47, label′) ∷ (0, breakstat) ∷ (8, gotostat) ∷ []) exprstat (sym ((c .before .before .before .before .before .before .before .before .get-next) .ensures) ∙ (c .before .before .before .before .before .before .t) .given .1) ((c .before .before .before .before .match2) .keys10)) (omega (arith, (get-place ((c .before .before .before .before .before .before .before .before .before .before .before .before .args) .stream .now) ((c .before .before .before .before .before .before .before .before .before .before .before .before .args) .c) (sym ((c .before .before .before .before .before .before .before .before .get-next) .ensures) ∙ (c .before .before .before .before .before .before .t) .given .1)))) ((c .before .before .goto) .ensures ((c .before .before .before .before .before .before .before .before .before .before .before .before .args) .ranking) (((c .before .before .before .before .before .before .before .before .before .before .before .before .args) .g) - 1))
 
 pub stat-same-length-12 : (t : ℕ) → stat-lts.Need-same-length-12 (
   deep-reads.Asked,
@@ -1818,4 +1818,4 @@ pub stat-returns-14 : (t : ℕ) → stat-lts.Need-returns-14 (
   estat.Post,
 ) (stat-at t) stat.Post
 unfolding statement′
-stat-returns-14 t c = moved ((c .before .before .before .before .before .before .before .before .before .before .before .before .args) .stream .now) ((c .before .before .before .before .before .before .before .before .before .before .before .before .args) .used) 0 ((c .before .before .before .before .before .before .before .before .before .before .before .before .args) .nodes .now) ((c .before .before .estat) .last .1 .0) ((c .before .before .estat) .result) (stats-down ((c .before .before .before .before .before .before .before .before .before .before .before .before .args) .stream .now) ((c .before .before .before .before .before .before .before .before .before .before .before .before .args) .ranking) ((c .before .before .before .before .before .before .before .before .before .before .before .before .args) .g) ((c .before .before .before .before .before .before .before .before .before .before .before .before .args) .c) ((c .before .before .before .before .before .before .before .before .before .if1) .left) ∙ by-others ((c .before .before .before .before .before .before .before .before .before .before .before .before .args) .stream .now) (ranks ((c .before .before .before .before .before .before .before .before .before .before .before .before .args) .ranking)) 0 (readers ((c .before .before .before .before .before .before .before .before .before .before .before .before .args) .stream .now) (ranks ((c .before .before .before .before .before .before .before .before .before .before .before .before .args) .ranking)) (((c .before .before .before .before .before .before .before .before .before .before .before .before .args) .g) - 1)) (hold 0 0 none) again ((c .before .before .before .before .before .before .before .before .before .before .before .before .args) .c) (9, ifstat) ((21, whilestat) ∷ (1, dostat) ∷ (6, forstat) ∷ (16, repeatstat) ∷ (7, functionstat) ∷ (11, (on second (7 ∷ []) localfunction localstat)) ∷ (47, label′) ∷ (0, breakstat) ∷ (8, gotostat) ∷ []) exprstat (sym ((c .before .before .before .before .before .before .before .before .get-next) .ensures) ∙ (c .before .before .before .before .before .before .t) .given .1) ((c .before .before .before .before .match2) .rest .0 .0 .0 .0 .0 .0 .0 .0 .0 .1) ((c .before .before .before .before .match2) .rest .0 .0 .0 .0 .0 .0 .0 .0 .1) ((c .before .before .before .before .match2) .rest .0 .0 .0 .0 .0 .0 .0 .1) ((c .before .before .before .before .match2) .rest .0 .0 .0 .0 .0 .0 .1) ((c .before .before .before .before .match2) .rest .0 .0 .0 .0 .0 .1) ((c .before .before .before .before .match2) .rest .0 .0 .0 .0 .1) ((c .before .before .before .before .match2) .rest .0 .0 .0 .1) ((c .before .before .before .before .match2) .rest .0 .0 .1) ((c .before .before .before .before .match2) .rest .0 .1) ((c .before .before .before .before .match2) .rest .1)) (omega (arith, (get-place ((c .before .before .before .before .before .before .before .before .before .before .before .before .args) .stream .now) ((c .before .before .before .before .before .before .before .before .before .before .before .before .args) .c) (sym ((c .before .before .before .before .before .before .before .before .get-next) .ensures) ∙ (c .before .before .before .before .before .before .t) .given .1)))) ((c .before .before .estat) .ensures)
+stat-returns-14 t c = moved ((c .before .before .before .before .before .before .before .before .before .before .before .before .args) .stream .now) (get-note ((c .before .before .before .before .before .before .before .before .before .before .before .before .args) .stream .now) ((c .before .before .before .before .before .before .before .before .before .before .before .before .args) .c) (sym ((c .before .before .before .before .before .before .before .before .get-next) .ensures) ∙ (c .before .before .before .before .before .before .t) .given .1)) ((c .before .before .before .before .before .before .before .before .before .before .before .before .args) .used) 0 ((c .before .before .before .before .before .before .before .before .before .before .before .before .args) .nodes .now) ((c .before .before .estat) .last .1 .0) ((c .before .before .estat) .result) (stats-down ((c .before .before .before .before .before .before .before .before .before .before .before .before .args) .stream .now) ((c .before .before .before .before .before .before .before .before .before .before .before .before .args) .ranking) ((c .before .before .before .before .before .before .before .before .before .before .before .before .args) .g) ((c .before .before .before .before .before .before .before .before .before .before .before .before .args) .c) ((c .before .before .before .before .before .before .before .before .before .if1) .left) ∙ by-others ((c .before .before .before .before .before .before .before .before .before .before .before .before .args) .stream .now) (ranks ((c .before .before .before .before .before .before .before .before .before .before .before .before .args) .ranking)) 0 (readers ((c .before .before .before .before .before .before .before .before .before .before .before .before .args) .stream .now) (ranks ((c .before .before .before .before .before .before .before .before .before .before .before .before .args) .ranking)) (((c .before .before .before .before .before .before .before .before .before .before .before .before .args) .g) - 1)) (hold 0 0 none) again ((c .before .before .before .before .before .before .before .before .before .before .before .before .args) .c) (9, ifstat) ((21, whilestat) ∷ (1, dostat) ∷ (6, forstat) ∷ (16, repeatstat) ∷ (7, functionstat) ∷ (11, (on second (7 ∷ []) localfunction localstat)) ∷ (47, label′) ∷ (0, breakstat) ∷ (8, gotostat) ∷ []) exprstat (sym ((c .before .before .before .before .before .before .before .before .get-next) .ensures) ∙ (c .before .before .before .before .before .before .t) .given .1) ((c .before .before .before .before .match2) .rest .0 .0 .0 .0 .0 .0 .0 .0 .0 .1) ((c .before .before .before .before .match2) .rest .0 .0 .0 .0 .0 .0 .0 .0 .1) ((c .before .before .before .before .match2) .rest .0 .0 .0 .0 .0 .0 .0 .1) ((c .before .before .before .before .match2) .rest .0 .0 .0 .0 .0 .0 .1) ((c .before .before .before .before .match2) .rest .0 .0 .0 .0 .0 .1) ((c .before .before .before .before .match2) .rest .0 .0 .0 .0 .1) ((c .before .before .before .before .match2) .rest .0 .0 .0 .1) ((c .before .before .before .before .match2) .rest .0 .0 .1) ((c .before .before .before .before .match2) .rest .0 .1) ((c .before .before .before .before .match2) .rest .1)) (omega (arith, (get-place ((c .before .before .before .before .before .before .before .before .before .before .before .before .args) .stream .now) ((c .before .before .before .before .before .before .before .before .before .before .before .before .args) .c) (sym ((c .before .before .before .before .before .before .before .before .get-next) .ensures) ∙ (c .before .before .before .before .before .before .t) .given .1)))) ((c .before .before .estat) .ensures)

@@ -24,8 +24,8 @@ use Rattle.grammar.specs.Term.{empty, plus, _⨾_, on, iter}
 use Rattle.grammar.specs.Term.{again as again′}
 use Rattle.parser.specs.Contract.{under}
 use Rattle.stream.proofs.Words.{few}
-use Rattle.parser.proofs.Steps.{look-in, look-out, end-out, look-place, end-place, saw-kind}
-use Rattle.parser.proofs.Kit.{kept, revalue, looked, Going, begin, going-length, fails, ends, stop, past, both, over}
+use Rattle.parser.proofs.Steps.{look-in, look-out, end-out, look-place, end-place, look-note, end-note, saw-kind}
+use Rattle.parser.proofs.Kit.{kept, revalue, renoted, looked, Going, begin, going-length, fails, ends, stop, past, both, over}
 use Rattle.parser.proofs.Around.{looping, settled}
 use Rattle.parser.proofs.Suffixes.{last-tag, suffix-tag, turns-last, parts-last}
 use Rattle.grammar.specs.Productions.{explist, field as field′, table as table′, args as args′, suffix as suffix′, suffixed as suffixed′}
@@ -33,7 +33,7 @@ use lib.Seq.{sets}
 use Rattle.tree.specs.Forest.{words}
 
 abbrev pub suffixed-Inv-loop : suffixed-lts.InvT-loop
-suffixed-Inv-loop stream nodes₀ ranking used g n₀ u₀ last₀ at₀ nodes n u last at = Formed stream × (at .place < records stream) × (u ≤ 4 * at .place + 0) × (n + 2 * at₀ .place ≤ 2 * at .place) × ((z : Going stream (at₀ .place) u₀ 0 nodes₀ nodes (under stream ranking 0 g 0 (iter (on ahead (44 ∷ 51 ∷ 46 ∷ 49 ∷ 53 ∷ 57 ∷ []) ((plus 1 ⨾ suffix′) ⨾ again′) empty)) (at₀ .place) (at₀ .mark)) (under stream ranking 0 g 0 (iter (on ahead (44 ∷ 51 ∷ 46 ∷ 49 ∷ 53 ∷ 57 ∷ []) ((plus 1 ⨾ suffix′) ⨾ again′) empty))) at u n) × (last ≡ last-tag last₀ (z .trees)))
+suffixed-Inv-loop stream nodes₀ ranking used g n₀ u₀ last₀ at₀ nodes n u last at = Formed stream × (at .place < records stream) × (u ≤ 4 * at .place + 0) × (n + 2 * at₀ .place ≤ 2 * at .place) × ((z : Going stream (at₀ .note) (at₀ .place) u₀ 0 nodes₀ nodes (under stream ranking 0 g 0 (iter (on ahead (44 ∷ 51 ∷ 46 ∷ 49 ∷ 53 ∷ 57 ∷ []) ((plus 1 ⨾ suffix′) ⨾ again′) empty)) (at₀ .place) (at₀ .mark)) (under stream ranking 0 g 0 (iter (on ahead (44 ∷ 51 ∷ 46 ∷ 49 ∷ 53 ∷ 57 ∷ []) ((plus 1 ⨾ suffix′) ⨾ again′) empty))) at u n) × (last ≡ last-tag last₀ (z .trees)))
 
 abbrev pub suffixed-μ-loop : suffixed-lts.MeasureT-loop
 suffixed-μ-loop stream nodes₀ ranking used g n₀ u₀ last₀ at₀ nodes n u last at = records stream - at .place
@@ -205,8 +205,8 @@ suffixed-returns-2 t c =
     let x1 = rw ((c .before .before .before .before .before .before .before .before .before .before .d) .given .1) at ((c .before .before .before .before .before .before .before .before .before .before .before .before .before .before .primary) .ensures) in
     let f1 = x1 .0 in
     let q = looping ((c .before .before .before .before .before .before .before .before .before .before .before .before .before .before .before .before .before .before .args) .stream .now) ((c .before .before .before .before .before .before .before .before .before .before .before .before .before .before .before .before .before .before .args) .ranking) 0 ((c .before .before .before .before .before .before .before .before .before .before .before .before .before .before .before .before .before .before .args) .g) 0 (on ahead (44 ∷ 51 ∷ 46 ∷ 49 ∷ 53 ∷ 57 ∷ []) ((plus 1 ⨾ suffix′) ⨾ again′) empty) refl ((c .before .before .before .before .before .before .before .before .loop) .at) (((c .before .before .before .before .before .before .before .before .loop) .inv) .1) ∙ end-out ((c .before .before .before .before .before .before .before .before .before .before .before .before .before .before .before .before .before .before .args) .stream .now) (ranks ((c .before .before .before .before .before .before .before .before .before .before .before .before .before .before .before .before .before .before .args) .ranking)) 0 (readers ((c .before .before .before .before .before .before .before .before .before .before .before .before .before .before .before .before .before .before .args) .stream .now) (ranks ((c .before .before .before .before .before .before .before .before .before .before .before .before .before .before .before .before .before .before .args) .ranking)) ((c .before .before .before .before .before .before .before .before .before .before .before .before .before .before .before .before .before .before .args) .g)) (hold 0 0 none) (under ((c .before .before .before .before .before .before .before .before .before .before .before .before .before .before .before .before .before .before .args) .stream .now) ((c .before .before .before .before .before .before .before .before .before .before .before .before .before .before .before .before .before .before .args) .ranking) 0 ((c .before .before .before .before .before .before .before .before .before .before .before .before .before .before .before .before .before .before .args) .g) 0 (iter (on ahead (44 ∷ 51 ∷ 46 ∷ 49 ∷ 53 ∷ 57 ∷ []) ((plus 1 ⨾ suffix′) ⨾ again′) empty))) ((c .before .before .before .before .before .before .before .before .loop) .at) (44 ∷ 51 ∷ 46 ∷ 49 ∷ 53 ∷ 57 ∷ []) ((plus 1 ⨾ suffix′) ⨾ again′) empty (sym ((c .before .before .before .before .before .before .before .look-ahead) .ensures) ∙ (c .before .before .before .before .before .d2) .given .1) refl in
-    let z = ends (((c .before .before .before .before .before .before .before .before .loop) .inv) .4 .0) (looked _ ((c .before .before .before .before .before .before .before .before .loop) .u) 0 ((c .before .before .before .before .before .before .before .before .loop) .at) ((c .before .before .before .before .before .d2) .given .0 .0) q (end-place ((c .before .before .before .before .before .before .before .before .before .before .before .before .before .before .before .before .before .before .args) .stream .now) ((c .before .before .before .before .before .before .before .before .loop) .at) (sym ((c .before .before .before .before .before .before .before .look-ahead) .ensures) ∙ (c .before .before .before .before .before .d2) .given .1)) (((c .before .before .before .before .before .before .before .before .loop) .inv) .1) (((c .before .before .before .before .before .before .before .before .loop) .inv) .2)) (omega arith) in
-    let f = over 29 unlined (((c .before .before .before .before .before .before .before .before .before .before .before .before .before .before .before .before .before .before .args) .c) .place) 0 (revalue {w = ((c .before .before .before .before .before .before .before .before .loop) .n)} (omega arith) (both (under ((c .before .before .before .before .before .before .before .before .before .before .before .before .before .before .before .before .before .before .args) .stream .now) ((c .before .before .before .before .before .before .before .before .before .before .before .before .before .before .before .before .before .before .args) .ranking) 0 ((c .before .before .before .before .before .before .before .before .before .before .before .before .before .before .before .before .before .before .args) .g) 0 (iter (on ahead (44 ∷ 51 ∷ 46 ∷ 49 ∷ 53 ∷ 57 ∷ []) ((plus 1 ⨾ suffix′) ⨾ again′) empty))) f1 z (omega arith))) ((c .before .before .put) .ensures) refl in
+    let z = ends (((c .before .before .before .before .before .before .before .before .loop) .inv) .4 .0) (looked _ ((c .before .before .before .before .before .before .before .before .loop) .u) 0 ((c .before .before .before .before .before .before .before .before .loop) .at) ((c .before .before .before .before .before .d2) .given .0 .0) q (end-place ((c .before .before .before .before .before .before .before .before .before .before .before .before .before .before .before .before .before .before .args) .stream .now) ((c .before .before .before .before .before .before .before .before .loop) .at) (sym ((c .before .before .before .before .before .before .before .look-ahead) .ensures) ∙ (c .before .before .before .before .before .d2) .given .1)) (end-note ((c .before .before .before .before .before .before .before .before .before .before .before .before .before .before .before .before .before .before .args) .stream .now) ((c .before .before .before .before .before .before .before .before .loop) .at) (sym ((c .before .before .before .before .before .before .before .look-ahead) .ensures) ∙ (c .before .before .before .before .before .d2) .given .1)) (((c .before .before .before .before .before .before .before .before .loop) .inv) .1) (((c .before .before .before .before .before .before .before .before .loop) .inv) .2)) (omega arith) in
+    let f = over 29 unlined (((c .before .before .before .before .before .before .before .before .before .before .before .before .before .before .before .before .before .before .args) .c) .place) 0 (refl, refl, refl) (revalue {w = ((c .before .before .before .before .before .before .before .before .loop) .n)} (omega arith) (both (under ((c .before .before .before .before .before .before .before .before .before .before .before .before .before .before .before .before .before .before .args) .stream .now) ((c .before .before .before .before .before .before .before .before .before .before .before .before .before .before .before .before .before .before .args) .ranking) 0 ((c .before .before .before .before .before .before .before .before .before .before .before .before .before .before .before .before .before .before .args) .g) 0 (iter (on ahead (44 ∷ 51 ∷ 46 ∷ 49 ∷ 53 ∷ 57 ∷ []) ((plus 1 ⨾ suffix′) ⨾ again′) empty))) f1 z (omega arith))) ((c .before .before .put) .ensures) refl in
     (f, parts-last (under ((c .before .before .before .before .before .before .before .before .before .before .before .before .before .before .before .before .before .before .args) .stream .now) ((c .before .before .before .before .before .before .before .before .before .before .before .before .before .before .before .before .before .before .args) .ranking) 0 ((c .before .before .before .before .before .before .before .before .before .before .before .before .before .before .before .before .before .before .args) .g) 0 (iter (on ahead (44 ∷ 51 ∷ 46 ∷ 49 ∷ 53 ∷ 57 ∷ []) ((plus 1 ⨾ suffix′) ⨾ again′) empty))) f1 (((c .before .before .before .before .before .before .before .before .loop) .inv) .4 .0) ((c .before .before .before .before .before .d2) .given .0 .0) q 29 unlined (((c .before .before .before .before .before .before .before .before .before .before .before .before .before .before .before .before .before .before .args) .c) .place) f ((c .before .before .before .before .before .before .before .before .before .before .d) .given .0 .1 .1 .0) ((c .before .before .before .before .before .before .before .before .loop) .last) (x1 .1) (((c .before .before .before .before .before .before .before .before .loop) .inv) .4 .1))
 
 pub suffixed-enum-known-t : (t : ℕ) → suffixed-lts.Need-enum-known-t (
@@ -233,6 +233,7 @@ pub suffixed-suffix-requires : (t : ℕ) → suffixed-lts.Need-suffix-requires (
 ) (suffixed-at t) suffixed.Post suffixed-Inv-loop suffixed-μ-loop
 suffixed-suffix-requires t c κs =
     let p = look-place ((c .before .before .before .before .before .before .before .before .before .before .before .before .before .before .before .args) .stream .now) ((c .before .before .before .before .before .loop) .at) (sym ((c .before .before .before .before .look-ahead) .ensures) ∙ (c .before .before .t) .given .1) in
+    let p′ = look-note ((c .before .before .before .before .before .before .before .before .before .before .before .before .before .before .before .args) .stream .now) ((c .before .before .before .before .before .loop) .at) (sym ((c .before .before .before .before .look-ahead) .ensures) ∙ (c .before .before .t) .given .1) in
     (omega (arith, (c .before .before .before .before .before .before .before .before .before .before .before .before .before .before .before .pre) .0), (record { formed = ((c .before .before .before .before .before .loop) .inv) .0; at = omega (arith, p, ((c .before .before .before .before .before .loop) .inv) .1); room = omega (arith, p, ((c .before .before .before .before .before .loop) .inv) .2) }, saw-kind ((c .before .before .before .before .before .before .before .before .before .before .before .before .before .before .before .args) .stream .now) ((c .before .before .before .before .before .loop) .at) (sym ((c .before .before .before .before .look-ahead) .ensures) ∙ (c .before .before .t) .given .1)))
 
 pub suffixed-enum-known-e-2 : (t : ℕ) → suffixed-lts.Need-enum-known-e-2 (
@@ -272,6 +273,7 @@ pub suffixed-loop-less : (t : ℕ) → suffixed-lts.Need-loop-less (
 suffixed-loop-less t c =
     let f = (rw ((c .before .e2) .given .1) at ((c .before .before .before .before .before .suffix) .ensures)) .1 .0 in
     let p = look-place ((c .before .before .before .before .before .before .before .before .before .before .before .before .before .before .before .before .before .before .before .before .before .args) .stream .now) ((c .before .before .before .before .before .before .before .before .before .before .before .loop) .at) (sym ((c .before .before .before .before .before .before .before .before .before .before .look-ahead) .ensures) ∙ (c .before .before .before .before .before .before .before .before .t) .given .1) in
+    let p′ = look-note ((c .before .before .before .before .before .before .before .before .before .before .before .before .before .before .before .before .before .before .before .before .before .args) .stream .now) ((c .before .before .before .before .before .before .before .before .before .before .before .loop) .at) (sym ((c .before .before .before .before .before .before .before .before .before .before .look-ahead) .ensures) ∙ (c .before .before .before .before .before .before .before .before .t) .given .1) in
     omega (arith, p, f .later, f .at)
 
 pub suffixed-loop-again : (t : ℕ) → suffixed-lts.Need-loop-again (
@@ -284,11 +286,12 @@ pub suffixed-loop-again : (t : ℕ) → suffixed-lts.Need-loop-again (
   suffix-below t,
   suffix.Post,
 ) (suffixed-at t) suffixed.Post suffixed-Inv-loop suffixed-μ-loop
-unfolding read suffix′ args′ explist table′ field′
+unfolding renoted read suffix′ args′ explist table′ field′
 suffixed-loop-again t c =
     let x = rw ((c .before .e2) .given .1) at ((c .before .before .before .before .before .suffix) .ensures) in
     let p = look-place ((c .before .before .before .before .before .before .before .before .before .before .before .before .before .before .before .before .before .before .before .before .before .args) .stream .now) ((c .before .before .before .before .before .before .before .before .before .before .before .loop) .at) (sym ((c .before .before .before .before .before .before .before .before .before .before .look-ahead) .ensures) ∙ (c .before .before .before .before .before .before .before .before .t) .given .1) in
-    let f = x .1 .0 in
+    let p′ = look-note ((c .before .before .before .before .before .before .before .before .before .before .before .before .before .before .before .before .before .before .before .before .before .args) .stream .now) ((c .before .before .before .before .before .before .before .before .before .before .before .loop) .at) (sym ((c .before .before .before .before .before .before .before .before .before .before .look-ahead) .ensures) ∙ (c .before .before .before .before .before .before .before .before .t) .given .1) in
+    let f = renoted p′ (x .1 .0) in
     let e0 = looping ((c .before .before .before .before .before .before .before .before .before .before .before .before .before .before .before .before .before .before .before .before .before .args) .stream .now) ((c .before .before .before .before .before .before .before .before .before .before .before .before .before .before .before .before .before .before .before .before .before .args) .ranking) 0 ((c .before .before .before .before .before .before .before .before .before .before .before .before .before .before .before .before .before .before .before .before .before .args) .g) 0 (on ahead (44 ∷ 51 ∷ 46 ∷ 49 ∷ 53 ∷ 57 ∷ []) ((plus 1 ⨾ suffix′) ⨾ again′) empty) refl ((c .before .before .before .before .before .before .before .before .before .before .before .loop) .at) (((c .before .before .before .before .before .before .before .before .before .before .before .loop) .inv) .1) ∙ look-in ((c .before .before .before .before .before .before .before .before .before .before .before .before .before .before .before .before .before .before .before .before .before .args) .stream .now) (ranks ((c .before .before .before .before .before .before .before .before .before .before .before .before .before .before .before .before .before .before .before .before .before .args) .ranking)) 0 (readers ((c .before .before .before .before .before .before .before .before .before .before .before .before .before .before .before .before .before .before .before .before .before .args) .stream .now) (ranks ((c .before .before .before .before .before .before .before .before .before .before .before .before .before .before .before .before .before .before .before .before .before .args) .ranking)) ((c .before .before .before .before .before .before .before .before .before .before .before .before .before .before .before .before .before .before .before .before .before .args) .g)) (hold 0 0 none) (under ((c .before .before .before .before .before .before .before .before .before .before .before .before .before .before .before .before .before .before .before .before .before .args) .stream .now) ((c .before .before .before .before .before .before .before .before .before .before .before .before .before .before .before .before .before .before .before .before .before .args) .ranking) 0 ((c .before .before .before .before .before .before .before .before .before .before .before .before .before .before .before .before .before .before .before .before .before .args) .g) 0 (iter (on ahead (44 ∷ 51 ∷ 46 ∷ 49 ∷ 53 ∷ 57 ∷ []) ((plus 1 ⨾ suffix′) ⨾ again′) empty))) ((c .before .before .before .before .before .before .before .before .before .before .before .loop) .at) (44 ∷ 51 ∷ 46 ∷ 49 ∷ 53 ∷ 57 ∷ []) ((plus 1 ⨾ suffix′) ⨾ again′) empty (sym ((c .before .before .before .before .before .before .before .before .before .before .look-ahead) .ensures) ∙ (c .before .before .before .before .before .before .before .before .t) .given .1) (x .0) ∙ ap (λ (o : Out). then (add none 1 o) (under ((c .before .before .before .before .before .before .before .before .before .before .before .before .before .before .before .before .before .before .before .before .before .args) .stream .now) ((c .before .before .before .before .before .before .before .before .before .before .before .before .before .before .before .before .before .before .before .before .before .args) .ranking) 0 ((c .before .before .before .before .before .before .before .before .before .before .before .before .before .before .before .before .before .before .before .before .before .args) .g) 0 (iter (on ahead (44 ∷ 51 ∷ 46 ∷ 49 ∷ 53 ∷ 57 ∷ []) ((plus 1 ⨾ suffix′) ⨾ again′) empty)))) (settled ((c .before .before .before .before .before .before .before .before .before .before .before .before .before .before .before .before .before .before .before .before .before .args) .stream .now) ((c .before .before .before .before .before .before .before .before .before .before .before .before .before .before .before .before .before .before .before .before .before .args) .ranking) 0 ((c .before .before .before .before .before .before .before .before .before .before .before .before .before .before .before .before .before .before .before .before .before .args) .g) (hold 0 0 none) (under ((c .before .before .before .before .before .before .before .before .before .before .before .before .before .before .before .before .before .before .before .before .before .args) .stream .now) ((c .before .before .before .before .before .before .before .before .before .before .before .before .before .before .before .before .before .before .before .before .before .args) .ranking) 0 ((c .before .before .before .before .before .before .before .before .before .before .before .before .before .before .before .before .before .before .before .before .before .args) .g) 0 (iter (on ahead (44 ∷ 51 ∷ 46 ∷ 49 ∷ 53 ∷ 57 ∷ []) ((plus 1 ⨾ suffix′) ⨾ again′) empty))) suffix′ refl ((c .before .before .before .before .before .before .before .before .t) .given .0 .1 .0)) in (
       ((c .before .before .before .before .before .before .before .before .before .before .before .loop) .inv) .0,
       f .at,
@@ -364,8 +367,8 @@ suffixed-returns-3 t c =
     let f1 = x1 .0 in
     let x = rw ((c .before .before .before .before .enum-told) .given .1) at ((c .before .before .before .before .before .before .before .before .suffix) .ensures) in
     let q = looping ((c .before .before .before .before .before .before .before .before .before .before .before .before .before .before .before .before .before .before .before .before .before .before .before .before .args) .stream .now) ((c .before .before .before .before .before .before .before .before .before .before .before .before .before .before .before .before .before .before .before .before .before .before .before .before .args) .ranking) 0 ((c .before .before .before .before .before .before .before .before .before .before .before .before .before .before .before .before .before .before .before .before .before .before .before .before .args) .g) 0 (on ahead (44 ∷ 51 ∷ 46 ∷ 49 ∷ 53 ∷ 57 ∷ []) ((plus 1 ⨾ suffix′) ⨾ again′) empty) refl ((c .before .before .before .before .before .before .before .before .before .before .before .before .before .before .loop) .at) (((c .before .before .before .before .before .before .before .before .before .before .before .before .before .before .loop) .inv) .1) ∙ look-out ((c .before .before .before .before .before .before .before .before .before .before .before .before .before .before .before .before .before .before .before .before .before .before .before .before .args) .stream .now) (ranks ((c .before .before .before .before .before .before .before .before .before .before .before .before .before .before .before .before .before .before .before .before .before .before .before .before .args) .ranking)) 0 (readers ((c .before .before .before .before .before .before .before .before .before .before .before .before .before .before .before .before .before .before .before .before .before .before .before .before .args) .stream .now) (ranks ((c .before .before .before .before .before .before .before .before .before .before .before .before .before .before .before .before .before .before .before .before .before .before .before .before .args) .ranking)) ((c .before .before .before .before .before .before .before .before .before .before .before .before .before .before .before .before .before .before .before .before .before .before .before .before .args) .g)) (hold 0 0 none) (under ((c .before .before .before .before .before .before .before .before .before .before .before .before .before .before .before .before .before .before .before .before .before .before .before .before .args) .stream .now) ((c .before .before .before .before .before .before .before .before .before .before .before .before .before .before .before .before .before .before .before .before .before .before .before .before .args) .ranking) 0 ((c .before .before .before .before .before .before .before .before .before .before .before .before .before .before .before .before .before .before .before .before .before .before .before .before .args) .g) 0 (iter (on ahead (44 ∷ 51 ∷ 46 ∷ 49 ∷ 53 ∷ 57 ∷ []) ((plus 1 ⨾ suffix′) ⨾ again′) empty))) ((c .before .before .before .before .before .before .before .before .before .before .before .before .before .before .loop) .at) (44 ∷ 51 ∷ 46 ∷ 49 ∷ 53 ∷ 57 ∷ []) ((plus 1 ⨾ suffix′) ⨾ again′) empty (sym ((c .before .before .before .before .before .before .before .before .before .before .before .before .before .look-ahead) .ensures) ∙ (c .before .before .before .before .before .before .before .before .before .before .before .t) .given .1) (x .0) in
-    let z = ends (((c .before .before .before .before .before .before .before .before .before .before .before .before .before .before .loop) .inv) .4 .0) (looked _ ((c .before .before .before .before .before .before .before .before .before .before .before .before .before .before .loop) .u) 0 ((c .before .before .before .before .before .before .before .before .before .before .before .before .before .before .loop) .at) ((c .before .before .before .before .before .before .before .before .before .before .before .t) .given .0 .1 .0) q (look-place ((c .before .before .before .before .before .before .before .before .before .before .before .before .before .before .before .before .before .before .before .before .before .before .before .before .args) .stream .now) ((c .before .before .before .before .before .before .before .before .before .before .before .before .before .before .loop) .at) (sym ((c .before .before .before .before .before .before .before .before .before .before .before .before .before .look-ahead) .ensures) ∙ (c .before .before .before .before .before .before .before .before .before .before .before .t) .given .1)) (((c .before .before .before .before .before .before .before .before .before .before .before .before .before .before .loop) .inv) .1) (((c .before .before .before .before .before .before .before .before .before .before .before .before .before .before .loop) .inv) .2)) (omega arith) in
-    let f = over 29 unlined (((c .before .before .before .before .before .before .before .before .before .before .before .before .before .before .before .before .before .before .before .before .before .before .before .before .args) .c) .place) 0 (revalue {w = ((c .before .before .before .before .before .before .before .before .before .before .before .before .before .before .loop) .n)} (omega arith) (both (under ((c .before .before .before .before .before .before .before .before .before .before .before .before .before .before .before .before .before .before .before .before .before .before .before .before .args) .stream .now) ((c .before .before .before .before .before .before .before .before .before .before .before .before .before .before .before .before .before .before .before .before .before .before .before .before .args) .ranking) 0 ((c .before .before .before .before .before .before .before .before .before .before .before .before .before .before .before .before .before .before .before .before .before .before .before .before .args) .g) 0 (iter (on ahead (44 ∷ 51 ∷ 46 ∷ 49 ∷ 53 ∷ 57 ∷ []) ((plus 1 ⨾ suffix′) ⨾ again′) empty))) f1 z (omega arith))) ((c .before .before .put2) .ensures ∙ ap (λ (w : List ℕ). sets w (((c .before .before .before .before .before .before .before .before .before .before .before .before .before .before .before .before .before .before .before .before .before .before .before .before .args) .used) * 4) (words 29 ((c .before .before .before .before .before .before .before .before .before .before .before .before .before .before .loop) .n) 0 (((c .before .before .before .before .before .before .before .before .before .before .before .before .before .before .loop) .u) - ((c .before .before .before .before .before .before .before .before .before .before .before .before .before .before .before .before .before .before .before .before .before .before .before .before .args) .used)))) (x .1)) refl in
+    let z = ends (((c .before .before .before .before .before .before .before .before .before .before .before .before .before .before .loop) .inv) .4 .0) (looked _ ((c .before .before .before .before .before .before .before .before .before .before .before .before .before .before .loop) .u) 0 ((c .before .before .before .before .before .before .before .before .before .before .before .before .before .before .loop) .at) ((c .before .before .before .before .before .before .before .before .before .before .before .t) .given .0 .1 .0) q (look-place ((c .before .before .before .before .before .before .before .before .before .before .before .before .before .before .before .before .before .before .before .before .before .before .before .before .args) .stream .now) ((c .before .before .before .before .before .before .before .before .before .before .before .before .before .before .loop) .at) (sym ((c .before .before .before .before .before .before .before .before .before .before .before .before .before .look-ahead) .ensures) ∙ (c .before .before .before .before .before .before .before .before .before .before .before .t) .given .1)) (look-note ((c .before .before .before .before .before .before .before .before .before .before .before .before .before .before .before .before .before .before .before .before .before .before .before .before .args) .stream .now) ((c .before .before .before .before .before .before .before .before .before .before .before .before .before .before .loop) .at) (sym ((c .before .before .before .before .before .before .before .before .before .before .before .before .before .look-ahead) .ensures) ∙ (c .before .before .before .before .before .before .before .before .before .before .before .t) .given .1)) (((c .before .before .before .before .before .before .before .before .before .before .before .before .before .before .loop) .inv) .1) (((c .before .before .before .before .before .before .before .before .before .before .before .before .before .before .loop) .inv) .2)) (omega arith) in
+    let f = over 29 unlined (((c .before .before .before .before .before .before .before .before .before .before .before .before .before .before .before .before .before .before .before .before .before .before .before .before .args) .c) .place) 0 (refl, refl, refl) (revalue {w = ((c .before .before .before .before .before .before .before .before .before .before .before .before .before .before .loop) .n)} (omega arith) (both (under ((c .before .before .before .before .before .before .before .before .before .before .before .before .before .before .before .before .before .before .before .before .before .before .before .before .args) .stream .now) ((c .before .before .before .before .before .before .before .before .before .before .before .before .before .before .before .before .before .before .before .before .before .before .before .before .args) .ranking) 0 ((c .before .before .before .before .before .before .before .before .before .before .before .before .before .before .before .before .before .before .before .before .before .before .before .before .args) .g) 0 (iter (on ahead (44 ∷ 51 ∷ 46 ∷ 49 ∷ 53 ∷ 57 ∷ []) ((plus 1 ⨾ suffix′) ⨾ again′) empty))) f1 z (omega arith))) ((c .before .before .put2) .ensures ∙ ap (λ (w : List ℕ). sets w (((c .before .before .before .before .before .before .before .before .before .before .before .before .before .before .before .before .before .before .before .before .before .before .before .before .args) .used) * 4) (words 29 ((c .before .before .before .before .before .before .before .before .before .before .before .before .before .before .loop) .n) 0 (((c .before .before .before .before .before .before .before .before .before .before .before .before .before .before .loop) .u) - ((c .before .before .before .before .before .before .before .before .before .before .before .before .before .before .before .before .before .before .before .before .before .before .before .before .args) .used)))) (x .1)) refl in
     (f, parts-last (under ((c .before .before .before .before .before .before .before .before .before .before .before .before .before .before .before .before .before .before .before .before .before .before .before .before .args) .stream .now) ((c .before .before .before .before .before .before .before .before .before .before .before .before .before .before .before .before .before .before .before .before .before .before .before .before .args) .ranking) 0 ((c .before .before .before .before .before .before .before .before .before .before .before .before .before .before .before .before .before .before .before .before .before .before .before .before .args) .g) 0 (iter (on ahead (44 ∷ 51 ∷ 46 ∷ 49 ∷ 53 ∷ 57 ∷ []) ((plus 1 ⨾ suffix′) ⨾ again′) empty))) f1 (((c .before .before .before .before .before .before .before .before .before .before .before .before .before .before .loop) .inv) .4 .0) ((c .before .before .before .before .before .before .before .before .before .before .before .t) .given .0 .1 .0) q 29 unlined (((c .before .before .before .before .before .before .before .before .before .before .before .before .before .before .before .before .before .before .before .before .before .before .before .before .args) .c) .place) f ((c .before .before .before .before .before .before .before .before .before .before .before .before .before .before .before .before .d) .given .0 .1 .1 .0) ((c .before .before .before .before .before .before .before .before .before .before .before .before .before .before .loop) .last) (x1 .1) (((c .before .before .before .before .before .before .before .before .before .before .before .before .before .before .loop) .inv) .4 .1))
 
 pub suffixed-enum-known-e-3 : (t : ℕ) → suffixed-lts.Need-enum-known-e-3 (

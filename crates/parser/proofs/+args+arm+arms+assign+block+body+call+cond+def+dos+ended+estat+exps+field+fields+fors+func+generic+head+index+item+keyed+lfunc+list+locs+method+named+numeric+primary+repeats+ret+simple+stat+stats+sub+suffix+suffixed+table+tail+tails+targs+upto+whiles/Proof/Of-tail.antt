@@ -6,6 +6,7 @@ use Rattle.parser.proofs.sub.Reads as sub
 use Rattle.parser.proofs.tail.Reads as tail
 use Rattle.parser.proofs.+args+arm+arms+assign+block+body+call+cond+def+dos+ended+estat+exps+field+fields+fors+func+generic+head+index+item+keyed+lfunc+list+locs+method+named+numeric+primary+repeats+ret+simple+stat+stats+sub+suffix+suffixed+table+tail+tails+targs+upto+whiles.Lts-tail as tail-lts
 use Rattle.parser.proofs.close.Reads as close-reads
+use Rattle.quarrel.proofs.hear.Reads as hear-reads
 use Rattle.stream.proofs.reader.take_next.Reads as take-next-reads
 use Rattle.parser.proofs.+args+arm+arms+assign+block+body+call+cond+def+dos+ended+estat+exps+field+fields+fors+func+generic+head+index+item+keyed+lfunc+list+locs+method+named+numeric+primary+repeats+ret+simple+stat+stats+sub+suffix+suffixed+table+tail+tails+targs+upto+whiles.{}
 use Rattle.parser.proofs.+args+arm+arms+assign+block+body+call+cond+def+dos+ended+estat+exps+field+fields+fors+func+generic+head+index+item+keyed+lfunc+list+locs+method+named+numeric+primary+repeats+ret+simple+stat+stats+sub+suffix+suffixed+table+tail+tails+targs+upto+whiles.Proof.Levels.{sub-below, tail-at}
@@ -14,20 +15,28 @@ use Prim.Native.Nat.{ℕ, _+_, _-_}
 use native.Mathlib.Omega.{arith}
 use Rattle.operators.specs.Ranks.{ranks}
 use Rattle.tree.specs.Forest.{none}
-use Rattle.grammar.specs.Reading.{read, hold, wrap, add}
+use Rattle.grammar.specs.Reading.{Out, read, hold, wrap, add, then}
 use Rattle.grammar.specs.Levels.{readers}
 use Rattle.grammar.specs.Term.{unlined}
+use Rattle.grammar.specs.Term.{_⨾_}
 use Rattle.parser.specs.Contract.{again}
 use Rattle.stream.proofs.Words.{few}
 use Rattle.parser.proofs.Steps.{took-next}
-use Rattle.parser.proofs.Kit.{kept, alter, revalue, weighed, stop, past, both, over}
-use Rattle.parser.proofs.Tokens.{ready-after, any-fail, any-fine}
+use Rattle.parser.proofs.Kit.{add-none, kept, ready-seen, lower, alter, revalue, renoted, weighed, stop, past, over-held, held-of}
+use Rattle.parser.proofs.Tokens.{ready-after, any-fail, any-says, any-fine}
+use Rattle.stream.specs.declared.reader.Cursor.{Cursor}
+use Rattle.stream.specs.declared.reader.Token.{Token}
+use Rattle.stream.specs.declared.reader.Note.{Note}
+use Rattle.quarrel.specs.Notes.{hears}
+use Rattle.grammar.specs.Term.{coded as coded′, operand as operand′}
 use Rattle.stream.specs.Words.{kind}
 use Rattle.operators.specs.Ranks.{code}
 
 pub tail-take-next-requires : (t : ℕ) → tail-lts.Need-take-next-requires (
   take-next-reads.Asked,
   take-next-reads.Learnt,
+  hear-reads.Asked,
+  hear-reads.Learnt,
   sub-below t,
   sub.Post,
   close-reads.Asked,
@@ -38,6 +47,8 @@ tail-take-next-requires t c κs = search needs
 pub tail-enum-known-e : (t : ℕ) → tail-lts.Need-enum-known-e (
   take-next-reads.Asked,
   take-next-reads.Learnt,
+  hear-reads.Asked,
+  hear-reads.Learnt,
   sub-below t,
   sub.Post,
   close-reads.Asked,
@@ -45,39 +56,59 @@ pub tail-enum-known-e : (t : ℕ) → tail-lts.Need-enum-known-e (
 ) (tail-at t) tail.Post
 tail-enum-known-e t c = search needs
 
-pub tail-enum-known-d : (t : ℕ) → tail-lts.Need-enum-known-d (
+pub tail-enum-known-t : (t : ℕ) → tail-lts.Need-enum-known-t (
   take-next-reads.Asked,
   take-next-reads.Learnt,
+  hear-reads.Asked,
+  hear-reads.Learnt,
   sub-below t,
   sub.Post,
   close-reads.Asked,
   close-reads.Learnt,
 ) (tail-at t) tail.Post
-tail-enum-known-d t c = search needs
+tail-enum-known-t t c = search needs
+
+pub tail-hear-requires : (t : ℕ) → tail-lts.Need-hear-requires (
+  take-next-reads.Asked,
+  take-next-reads.Learnt,
+  hear-reads.Asked,
+  hear-reads.Learnt,
+  sub-below t,
+  sub.Post,
+  close-reads.Asked,
+  close-reads.Learnt,
+) (tail-at t) tail.Post
+tail-hear-requires t c κs = search needs
 
 pub tail-add-sub : (t : ℕ) → tail-lts.Need-add-sub (
   take-next-reads.Asked,
   take-next-reads.Learnt,
+  hear-reads.Asked,
+  hear-reads.Learnt,
   sub-below t,
   sub.Post,
   close-reads.Asked,
   close-reads.Learnt,
 ) (tail-at t) tail.Post
-tail-add-sub t c = let b = few ((c .before .before .before .before .before .before .before .args) .stream .now) (((c .before .before .before .before .before .before .before .pre) .1 .0) .formed) in omega (arith, ((c .before .before .before .before .before .before .before .pre) .1 .0) .room, ((c .before .before .before .before .before .before .before .pre) .1 .0) .at)
+tail-add-sub t c = let b = few ((c .before .before .before .before .before .before .before .before .args) .stream .now) (((c .before .before .before .before .before .before .before .before .pre) .1 .0) .formed) in omega (arith, ((c .before .before .before .before .before .before .before .before .pre) .1 .0) .room, ((c .before .before .before .before .before .before .before .before .pre) .1 .0) .at)
 
 pub tail-sub-requires : (t : ℕ) → tail-lts.Need-sub-requires (
   take-next-reads.Asked,
   take-next-reads.Learnt,
+  hear-reads.Asked,
+  hear-reads.Learnt,
   sub-below t,
   sub.Post,
   close-reads.Asked,
   close-reads.Learnt,
 ) (tail-at t) tail.Post
-tail-sub-requires t c κs = (omega (arith, (c .before .before .before .before .before .before .before .pre) .0), ready-after (((c .before .before .before .before .before .before .before .pre) .1 .0) .formed) (took-next ((c .before .before .before .before .before .before .before .args) .stream .now) ((c .before .before .before .before .before .before .before .args) .c) ((sym ((c .before .before .before .before .take-next) .ensures)) ∙ (c .before .before .d) .given .1)) (omega (arith, ((c .before .before .before .before .before .before .before .pre) .1 .0) .room)))
+tail-sub-requires t c κs = (omega (arith, (c .before .before .before .before .before .before .before .before .pre) .0), ready-seen (ready-after (((c .before .before .before .before .before .before .before .before .pre) .1 .0) .formed) (took-next ((c .before .before .before .before .before .before .before .before .args) .stream .now) ((c .before .before .before .before .before .before .before .before .args) .c) ((sym ((c .before .before .before .before .before .take-next) .ensures)) ∙ (c .before .before .before .t) .given .1)) (omega (arith, ((c .before .before .before .before .before .before .before .before .pre) .1 .0) .room))) (ap (λ (z : Cursor). z .place) ((c .before .hear) .ensures)))
 
 pub tail-enum-known-e-2 : (t : ℕ) → tail-lts.Need-enum-known-e-2 (
   take-next-reads.Asked,
   take-next-reads.Learnt,
+  hear-reads.Asked,
+  hear-reads.Learnt,
   sub-below t,
   sub.Post,
   close-reads.Asked,
@@ -88,6 +119,8 @@ tail-enum-known-e-2 t c = search needs
 pub tail-enum-known-e-3 : (t : ℕ) → tail-lts.Need-enum-known-e-3 (
   take-next-reads.Asked,
   take-next-reads.Learnt,
+  hear-reads.Asked,
+  hear-reads.Learnt,
   sub-below t,
   sub.Post,
   close-reads.Asked,
@@ -98,6 +131,8 @@ tail-enum-known-e-3 t c = search needs
 pub tail-close-requires : (t : ℕ) → tail-lts.Need-close-requires (
   take-next-reads.Asked,
   take-next-reads.Learnt,
+  hear-reads.Asked,
+  hear-reads.Learnt,
   sub-below t,
   sub.Post,
   close-reads.Asked,
@@ -110,6 +145,8 @@ tail-close-requires t c κs =
 pub tail-returns : (t : ℕ) → tail-lts.Need-returns (
   take-next-reads.Asked,
   take-next-reads.Learnt,
+  hear-reads.Asked,
+  hear-reads.Learnt,
   sub-below t,
   sub.Post,
   close-reads.Asked,
@@ -121,6 +158,8 @@ tail-returns t c = ap (wrap ((c .before .before .before .before .before .before 
 pub tail-same-length : (t : ℕ) → tail-lts.Need-same-length (
   take-next-reads.Asked,
   take-next-reads.Learnt,
+  hear-reads.Asked,
+  hear-reads.Learnt,
   sub-below t,
   sub.Post,
   close-reads.Asked,
@@ -131,6 +170,8 @@ tail-same-length t c = (c .before .before .before .before .before .sub) .kept .1
 pub tail-returns-2 : (t : ℕ) → tail-lts.Need-returns-2 (
   take-next-reads.Asked,
   take-next-reads.Learnt,
+  hear-reads.Asked,
+  hear-reads.Learnt,
   sub-below t,
   sub.Post,
   close-reads.Asked,
@@ -138,17 +179,19 @@ pub tail-returns-2 : (t : ℕ) → tail-lts.Need-returns-2 (
 ) (tail-at t) tail.Post
 unfolding read
 tail-returns-2 t c =
-    let a = took-next ((c .before .before .before .before .before .before .before .before .before .before .before .before .before .args) .stream .now) ((c .before .before .before .before .before .before .before .before .before .before .before .before .before .args) .c) ((sym ((c .before .before .before .before .before .before .before .before .before .before .take-next) .ensures)) ∙ (c .before .before .before .before .before .before .before .before .d) .given .1) in
-    let f1 = any-fine ((c .before .before .before .before .before .before .before .before .before .before .before .before .before .args) .stream .now) (ranks ((c .before .before .before .before .before .before .before .before .before .before .before .before .before .args) .ranking)) 0 (readers ((c .before .before .before .before .before .before .before .before .before .before .before .before .before .args) .stream .now) (ranks ((c .before .before .before .before .before .before .before .before .before .before .before .before .before .args) .ranking)) ((c .before .before .before .before .before .before .before .before .before .before .before .before .before .args) .g)) (hold 0 0 none) again ((c .before .before .before .before .before .before .before .before .before .before .before .before .before .args) .c) ((c .before .before .before .before .before .before .before .before .before .before .before .before .before .args) .nodes .now) (((c .before .before .before .before .before .before .before .before .before .before .before .before .before .args) .used) + 1) 1 (((c .before .before .before .before .before .before .before .before .before .before .before .before .before .pre) .1 .0) .formed) (omega (arith, ((c .before .before .before .before .before .before .before .before .before .before .before .before .before .pre) .1 .0) .room)) ((sym ((c .before .before .before .before .before .before .before .before .before .before .take-next) .ensures)) ∙ (c .before .before .before .before .before .before .before .before .d) .given .1) in
-    let p : ((c .before .before .before .before .before .before .before .before .before .before .before .before .before .args) .c) .place ≡ ((c .before .before .before .before .before .before .before .before .d) .given .0 .1 .0) .place - 1 = omega (arith, a .place) in
-    let q = (c .before .before .before .before .before .before .before .before .before .before .before .before .before .pre) .1 .1 ∙ ap (λ (z : ℕ). ranks ((c .before .before .before .before .before .before .before .before .before .before .before .before .before .args) .ranking) .right (kind ((c .before .before .before .before .before .before .before .before .before .before .before .before .before .args) .stream .now) z)) p in
-    let x = ap (λ (z : ℕ). readers ((c .before .before .before .before .before .before .before .before .before .before .before .before .before .args) .stream .now) (ranks ((c .before .before .before .before .before .before .before .before .before .before .before .before .before .args) .ranking)) ((c .before .before .before .before .before .before .before .before .before .before .before .before .before .args) .g) .exps z (((c .before .before .before .before .before .before .before .before .d) .given .0 .1 .0) .place) (((c .before .before .before .before .before .before .before .before .d) .given .0 .1 .0) .mark)) (sym q) in
+    let a = took-next ((c .before .before .before .before .before .before .before .before .before .before .before .before .before .before .args) .stream .now) ((c .before .before .before .before .before .before .before .before .before .before .before .before .before .before .args) .c) ((sym ((c .before .before .before .before .before .before .before .before .before .before .before .take-next) .ensures)) ∙ (c .before .before .before .before .before .before .before .before .before .t) .given .1) in
+    let f1 = any-fine ((c .before .before .before .before .before .before .before .before .before .before .before .before .before .before .args) .stream .now) (ranks ((c .before .before .before .before .before .before .before .before .before .before .before .before .before .before .args) .ranking)) 0 (readers ((c .before .before .before .before .before .before .before .before .before .before .before .before .before .before .args) .stream .now) (ranks ((c .before .before .before .before .before .before .before .before .before .before .before .before .before .before .args) .ranking)) ((c .before .before .before .before .before .before .before .before .before .before .before .before .before .before .args) .g)) (hold 0 0 none) again ((c .before .before .before .before .before .before .before .before .before .before .before .before .before .before .args) .c) ((c .before .before .before .before .before .before .before .before .before .before .before .before .before .before .args) .nodes .now) (((c .before .before .before .before .before .before .before .before .before .before .before .before .before .before .args) .used) + 1) 1 (((c .before .before .before .before .before .before .before .before .before .before .before .before .before .before .pre) .1 .0) .formed) (omega (arith, ((c .before .before .before .before .before .before .before .before .before .before .before .before .before .before .pre) .1 .0) .room)) ((sym ((c .before .before .before .before .before .before .before .before .before .before .before .take-next) .ensures)) ∙ (c .before .before .before .before .before .before .before .before .before .t) .given .1) in
+    let p : ((c .before .before .before .before .before .before .before .before .before .before .before .before .before .before .args) .c) .place ≡ ((c .before .before .before .before .before .before .before .before .before .t) .given .0 .1 .0) .place - 1 = omega (arith, a .place) in
+    let q = (c .before .before .before .before .before .before .before .before .before .before .before .before .before .before .pre) .1 .1 ∙ ap (λ (z : ℕ). ranks ((c .before .before .before .before .before .before .before .before .before .before .before .before .before .before .args) .ranking) .right (kind ((c .before .before .before .before .before .before .before .before .before .before .before .before .before .before .args) .stream .now) z)) p in
+    let x = ap (λ (z : ℕ). readers ((c .before .before .before .before .before .before .before .before .before .before .before .before .before .before .args) .stream .now) (ranks ((c .before .before .before .before .before .before .before .before .before .before .before .before .before .before .args) .ranking)) ((c .before .before .before .before .before .before .before .before .before .before .before .before .before .before .args) .g) .exps z (((c .before .before .before .before .before .before .before .before .before .t) .given .0 .1 .0) .place) (((c .before .before .before .before .before .before .before .before .before .t) .given .0 .1 .0) .mark)) (sym q) ∙ sym (ap (λ (z : Cursor). readers ((c .before .before .before .before .before .before .before .before .before .before .before .before .before .before .args) .stream .now) (ranks ((c .before .before .before .before .before .before .before .before .before .before .before .before .before .before .args) .ranking)) ((c .before .before .before .before .before .before .before .before .before .before .before .before .before .before .args) .g) .exps ((c .before .before .before .before .before .before .before .before .before .before .before .before .before .before .args) .limit) (z .place) (z .mark)) ((c .before .before .before .before .before .before .before .hear) .ensures)) in
     let y = rw ((c .before .e2) .given .1) at ((c .before .before .before .before .before .sub) .ensures) in
-    ap (wrap ((c .before .before .before .before .before .before .before .before .before .before .before .before .before .args) .stream .now) 19 unlined (((c .before .before .before .before .before .before .before .before .before .before .before .before .before .args) .c) .place)) (past _ f1 (ap (add none (code (kind ((c .before .before .before .before .before .before .before .before .before .before .before .before .before .args) .stream .now) (((c .before .before .before .before .before .before .before .before .d) .given .0 .1 .0) .place - 1)))) (x ∙ y)))
+    ap (wrap ((c .before .before .before .before .before .before .before .before .before .before .before .before .before .before .args) .stream .now) 19 unlined (((c .before .before .before .before .before .before .before .before .before .before .before .before .before .before .args) .c) .place)) (past _ f1 (ap (add none (code (kind ((c .before .before .before .before .before .before .before .before .before .before .before .before .before .before .args) .stream .now) (((c .before .before .before .before .before .before .before .before .before .t) .given .0 .1 .0) .place - 1)))) (x ∙ y)))
 
 pub tail-same-length-2 : (t : ℕ) → tail-lts.Need-same-length-2 (
   take-next-reads.Asked,
   take-next-reads.Learnt,
+  hear-reads.Asked,
+  hear-reads.Learnt,
   sub-below t,
   sub.Post,
   close-reads.Asked,
@@ -159,6 +202,8 @@ tail-same-length-2 t c = (c .before .before .close) .kept .0 ∙ (c .before .bef
 pub tail-returns-3 : (t : ℕ) → tail-lts.Need-returns-3 (
   take-next-reads.Asked,
   take-next-reads.Learnt,
+  hear-reads.Asked,
+  hear-reads.Learnt,
   sub-below t,
   sub.Post,
   close-reads.Asked,
@@ -166,11 +211,15 @@ pub tail-returns-3 : (t : ℕ) → tail-lts.Need-returns-3 (
 ) (tail-at t) tail.Post
 unfolding read
 tail-returns-3 t c =
-    let a = took-next ((c .before .before .before .before .before .before .before .before .before .before .before .before .before .before .before .before .before .args) .stream .now) ((c .before .before .before .before .before .before .before .before .before .before .before .before .before .before .before .before .before .args) .c) ((sym ((c .before .before .before .before .before .before .before .before .before .before .before .before .before .before .take-next) .ensures)) ∙ (c .before .before .before .before .before .before .before .before .before .before .before .before .d) .given .1) in
-    let f1 = any-fine ((c .before .before .before .before .before .before .before .before .before .before .before .before .before .before .before .before .before .args) .stream .now) (ranks ((c .before .before .before .before .before .before .before .before .before .before .before .before .before .before .before .before .before .args) .ranking)) 0 (readers ((c .before .before .before .before .before .before .before .before .before .before .before .before .before .before .before .before .before .args) .stream .now) (ranks ((c .before .before .before .before .before .before .before .before .before .before .before .before .before .before .before .before .before .args) .ranking)) ((c .before .before .before .before .before .before .before .before .before .before .before .before .before .before .before .before .before .args) .g)) (hold 0 0 none) again ((c .before .before .before .before .before .before .before .before .before .before .before .before .before .before .before .before .before .args) .c) ((c .before .before .before .before .before .before .before .before .before .before .before .before .before .before .before .before .before .args) .nodes .now) (((c .before .before .before .before .before .before .before .before .before .before .before .before .before .before .before .before .before .args) .used) + 1) 1 (((c .before .before .before .before .before .before .before .before .before .before .before .before .before .before .before .before .before .pre) .1 .0) .formed) (omega (arith, ((c .before .before .before .before .before .before .before .before .before .before .before .before .before .before .before .before .before .pre) .1 .0) .room)) ((sym ((c .before .before .before .before .before .before .before .before .before .before .before .before .before .before .take-next) .ensures)) ∙ (c .before .before .before .before .before .before .before .before .before .before .before .before .d) .given .1) in
-    let p : ((c .before .before .before .before .before .before .before .before .before .before .before .before .before .before .before .before .before .args) .c) .place ≡ ((c .before .before .before .before .before .before .before .before .before .before .before .before .d) .given .0 .1 .0) .place - 1 = omega (arith, a .place) in
-    let q = (c .before .before .before .before .before .before .before .before .before .before .before .before .before .before .before .before .before .pre) .1 .1 ∙ ap (λ (z : ℕ). ranks ((c .before .before .before .before .before .before .before .before .before .before .before .before .before .before .before .before .before .args) .ranking) .right (kind ((c .before .before .before .before .before .before .before .before .before .before .before .before .before .before .before .before .before .args) .stream .now) z)) p in
-    let x = ap (λ (z : ℕ). readers ((c .before .before .before .before .before .before .before .before .before .before .before .before .before .before .before .before .before .args) .stream .now) (ranks ((c .before .before .before .before .before .before .before .before .before .before .before .before .before .before .before .before .before .args) .ranking)) ((c .before .before .before .before .before .before .before .before .before .before .before .before .before .before .before .before .before .args) .g) .exps z (((c .before .before .before .before .before .before .before .before .before .before .before .before .d) .given .0 .1 .0) .place) (((c .before .before .before .before .before .before .before .before .before .before .before .before .d) .given .0 .1 .0) .mark)) (sym q) in
+    let a = took-next ((c .before .before .before .before .before .before .before .before .before .before .before .before .before .before .before .before .before .before .args) .stream .now) ((c .before .before .before .before .before .before .before .before .before .before .before .before .before .before .before .before .before .before .args) .c) ((sym ((c .before .before .before .before .before .before .before .before .before .before .before .before .before .before .before .take-next) .ensures)) ∙ (c .before .before .before .before .before .before .before .before .before .before .before .before .before .t) .given .1) in
+    let f1 = any-fine ((c .before .before .before .before .before .before .before .before .before .before .before .before .before .before .before .before .before .before .args) .stream .now) (ranks ((c .before .before .before .before .before .before .before .before .before .before .before .before .before .before .before .before .before .before .args) .ranking)) 0 (readers ((c .before .before .before .before .before .before .before .before .before .before .before .before .before .before .before .before .before .before .args) .stream .now) (ranks ((c .before .before .before .before .before .before .before .before .before .before .before .before .before .before .before .before .before .before .args) .ranking)) ((c .before .before .before .before .before .before .before .before .before .before .before .before .before .before .before .before .before .before .args) .g)) (hold 0 0 none) again ((c .before .before .before .before .before .before .before .before .before .before .before .before .before .before .before .before .before .before .args) .c) ((c .before .before .before .before .before .before .before .before .before .before .before .before .before .before .before .before .before .before .args) .nodes .now) (((c .before .before .before .before .before .before .before .before .before .before .before .before .before .before .before .before .before .before .args) .used) + 1) 1 (((c .before .before .before .before .before .before .before .before .before .before .before .before .before .before .before .before .before .before .pre) .1 .0) .formed) (omega (arith, ((c .before .before .before .before .before .before .before .before .before .before .before .before .before .before .before .before .before .before .pre) .1 .0) .room)) ((sym ((c .before .before .before .before .before .before .before .before .before .before .before .before .before .before .before .take-next) .ensures)) ∙ (c .before .before .before .before .before .before .before .before .before .before .before .before .before .t) .given .1) in
+    let p : ((c .before .before .before .before .before .before .before .before .before .before .before .before .before .before .before .before .before .before .args) .c) .place ≡ ((c .before .before .before .before .before .before .before .before .before .before .before .before .before .t) .given .0 .1 .0) .place - 1 = omega (arith, a .place) in
+    let q = (c .before .before .before .before .before .before .before .before .before .before .before .before .before .before .before .before .before .before .pre) .1 .1 ∙ ap (λ (z : ℕ). ranks ((c .before .before .before .before .before .before .before .before .before .before .before .before .before .before .before .before .before .before .args) .ranking) .right (kind ((c .before .before .before .before .before .before .before .before .before .before .before .before .before .before .before .before .before .before .args) .stream .now) z)) p in
+    let x = ap (λ (z : ℕ). readers ((c .before .before .before .before .before .before .before .before .before .before .before .before .before .before .before .before .before .before .args) .stream .now) (ranks ((c .before .before .before .before .before .before .before .before .before .before .before .before .before .before .before .before .before .before .args) .ranking)) ((c .before .before .before .before .before .before .before .before .before .before .before .before .before .before .before .before .before .before .args) .g) .exps z (((c .before .before .before .before .before .before .before .before .before .before .before .before .before .t) .given .0 .1 .0) .place) (((c .before .before .before .before .before .before .before .before .before .before .before .before .before .t) .given .0 .1 .0) .mark)) (sym q) ∙ sym (ap (λ (z : Cursor). readers ((c .before .before .before .before .before .before .before .before .before .before .before .before .before .before .before .before .before .before .args) .stream .now) (ranks ((c .before .before .before .before .before .before .before .before .before .before .before .before .before .before .before .before .before .before .args) .ranking)) ((c .before .before .before .before .before .before .before .before .before .before .before .before .before .before .before .before .before .before .args) .g) .exps ((c .before .before .before .before .before .before .before .before .before .before .before .before .before .before .before .before .before .before .args) .limit) (z .place) (z .mark)) ((c .before .before .before .before .before .before .before .before .before .before .before .hear) .ensures)) in
     let f3 = rw ((c .before .before .before .before .before .e3) .given .1) at ((c .before .before .before .before .before .before .before .before .before .sub) .ensures) in
-    let o = (c .before .before .before .before .before .before .before .before .before .before .before .before .before .before .before .before .before .pre) .1 .2 ∙ ap (λ (z : ℕ). code (kind ((c .before .before .before .before .before .before .before .before .before .before .before .before .before .before .before .before .before .args) .stream .now) z)) p in
-    rw ((c .before .before .close) .ensures .0) (over 19 unlined (((c .before .before .before .before .before .before .before .before .before .before .before .before .before .before .before .before .before .args) .c) .place) 0 (revalue (omega (arith, o)) (both _ f1 (weighed (code (kind ((c .before .before .before .before .before .before .before .before .before .before .before .before .before .before .before .before .before .args) .stream .now) (((c .before .before .before .before .before .before .before .before .before .before .before .before .d) .given .0 .1 .0) .place - 1))) (alter x f3)) (omega arith))) ((c .before .before .close) .ensures .1) refl)
+    let o = (c .before .before .before .before .before .before .before .before .before .before .before .before .before .before .before .before .before .before .pre) .1 .2 ∙ ap (λ (z : ℕ). code (kind ((c .before .before .before .before .before .before .before .before .before .before .before .before .before .before .before .before .before .before .args) .stream .now) z)) p in
+    let nq = ap (λ (z : Cursor). z .note) ((c .before .before .before .before .before .before .before .before .before .before .before .hear) .ensures) ∙ ap (λ (z : Note). hears z (((c .before .before .before .before .before .before .before .before .before .before .before .before .before .t) .given .0 .0) .kind) (((c .before .before .before .before .before .before .before .before .before .before .before .before .before .before .before .before .before .before .args) .c) .place)) (a .note) ∙ ap (λ (z : Token). hears (((c .before .before .before .before .before .before .before .before .before .before .before .before .before .before .before .before .before .before .args) .c) .note) (z .kind) (((c .before .before .before .before .before .before .before .before .before .before .before .before .before .before .before .before .before .before .args) .c) .place)) (a .token) in
+    let f4 = weighed (code (kind ((c .before .before .before .before .before .before .before .before .before .before .before .before .before .before .before .before .before .before .args) .stream .now) (((c .before .before .before .before .before .before .before .before .before .before .before .before .before .t) .given .0 .1 .0) .place - 1))) (alter x (renoted nq (held-of ((c .before .before .before .before .before .before .before .before .before .before .before .before .before .before .before .before .before .before .args) .limit) ((c .before .before .before .before .before .before .before .before .before .before .before .before .before .before .before .before .before .before .pre) .1 .3) f3))) in
+    let f5 = alter (ap (λ (z : Out). then z (read ((c .before .before .before .before .before .before .before .before .before .before .before .before .before .before .before .before .before .before .args) .stream .now) (ranks ((c .before .before .before .before .before .before .before .before .before .before .before .before .before .before .before .before .before .before .args) .ranking)) 0 (readers ((c .before .before .before .before .before .before .before .before .before .before .before .before .before .before .before .before .before .before .args) .stream .now) (ranks ((c .before .before .before .before .before .before .before .before .before .before .before .before .before .before .before .before .before .before .args) .ranking)) ((c .before .before .before .before .before .before .before .before .before .before .before .before .before .before .before .before .before .before .args) .g)) (hold 0 0 none) (coded′ ⨾ operand′) again)) (any-says ((c .before .before .before .before .before .before .before .before .before .before .before .before .before .before .before .before .before .before .args) .stream .now) (ranks ((c .before .before .before .before .before .before .before .before .before .before .before .before .before .before .before .before .before .before .args) .ranking)) 0 (readers ((c .before .before .before .before .before .before .before .before .before .before .before .before .before .before .before .before .before .before .args) .stream .now) (ranks ((c .before .before .before .before .before .before .before .before .before .before .before .before .before .before .before .before .before .before .args) .ranking)) ((c .before .before .before .before .before .before .before .before .before .before .before .before .before .before .before .before .before .before .args) .g)) (hold 0 0 none) again ((c .before .before .before .before .before .before .before .before .before .before .before .before .before .before .before .before .before .before .args) .c) ((sym ((c .before .before .before .before .before .before .before .before .before .before .before .before .before .before .before .take-next) .ensures)) ∙ (c .before .before .before .before .before .before .before .before .before .before .before .before .before .t) .given .1)) ∙ add-none _) f4 in
+    let hp = (ap (λ (z : Cursor). z .place) ((c .before .before .before .before .before .before .before .before .before .before .before .hear) .ensures)) in
+    rw ((c .before .before .close) .ensures .0) (over-held 19 (((c .before .before .before .before .before .before .before .before .before .before .before .before .before .before .before .before .before .before .args) .c) .note) unlined (((c .before .before .before .before .before .before .before .before .before .before .before .before .before .before .before .before .before .before .args) .c) .place) 0 (λ v l k. refl) (revalue (omega (arith, o)) (lower (((c .before .before .before .before .before .before .before .before .before .before .before .before .before .before .before .before .before .before .args) .c) .place + 1) f5 (omega (arith, f3 .later, hp, a .place)))) ((c .before .before .close) .ensures .1) refl)

@@ -28,15 +28,15 @@ use Rattle.grammar.specs.Term.{again as again′, kept as kept′}
 use Rattle.parser.specs.Contract.{under}
 use Rattle.parser.specs.Parts as P
 use Rattle.stream.proofs.Words.{few}
-use Rattle.parser.proofs.Steps.{took-next, check-in, check-out, check-place}
-use Rattle.parser.proofs.Kit.{kept, revalue, looked, weighs, Going, begin, fails, ends, turns, stop, past, both}
+use Rattle.parser.proofs.Steps.{took-next, check-in, check-out, check-place, check-note}
+use Rattle.parser.proofs.Kit.{kept, revalue, renoted, looked, weighs, Going, begin, fails, ends, turns, stop, past, both}
 use Rattle.parser.proofs.Tokens.{ready-after, any-fail, any-fine}
 use Rattle.parser.proofs.Around.{looping, settled, keep-fine, keep-fail}
 use Rattle.parser.proofs.Suffixes.{suffixed-fits}
 use Rattle.grammar.specs.Productions.{explist, field as field′, table as table′, args as args′, suffix as suffix′, primary as primary′, suffixed as suffixed′}
 
 abbrev pub targs-Inv-loop : targs-lts.InvT-loop
-targs-Inv-loop stream nodes₀ ranking used g after at₀ u₀ n₀ nodes at u n = Formed stream × (at .place < records stream) × (u ≤ 4 * at .place + 0) × (n + 2 * at₀ .place ≤ 2 * at .place) × (length nodes ≡ length nodes₀) × ((e : ℕ) → after ≡ lineAt stream e → Going stream (at₀ .place) used 0 nodes₀ nodes (under stream ranking 0 g e P.targets (at₀ .place) (at₀ .mark)) (under stream ranking 0 g e P.targets) at u n)
+targs-Inv-loop stream nodes₀ ranking used g after at₀ u₀ n₀ nodes at u n = Formed stream × (at .place < records stream) × (u ≤ 4 * at .place + 0) × (n + 2 * at₀ .place ≤ 2 * at .place) × (length nodes ≡ length nodes₀) × ((e : ℕ) → after ≡ lineAt stream e → Going stream (at₀ .note) (at₀ .place) used 0 nodes₀ nodes (under stream ranking 0 g e P.targets (at₀ .place) (at₀ .mark)) (under stream ranking 0 g e P.targets) at u n)
 
 abbrev pub targs-μ-loop : targs-lts.MeasureT-loop
 targs-μ-loop stream nodes₀ ranking used g after at₀ u₀ n₀ nodes at u n = records stream - at .place
@@ -98,7 +98,8 @@ pub targs-returns : (t : ℕ) → targs-lts.Need-returns (
 unfolding read suffixed′ suffix′ primary′ args′ table′ field′ explist
 targs-returns t c =
     let p = (check-place ((c .before .before .before .before .before .before .args) .stream .now) ((c .before .before .before .loop) .at) 0 48 ((c .before .before .check-ahead) .ensures)) in
-    λ e h. (revalue (omega arith) (ends (((c .before .before .before .loop) .inv) .5 e h) (looked _ ((c .before .before .before .loop) .u) 0 ((c .before .before .before .loop) .at) (((c .before .before .check-ahead) .result) .cursor) (looping ((c .before .before .before .before .before .before .args) .stream .now) ((c .before .before .before .before .before .before .args) .ranking) 0 ((c .before .before .before .before .before .before .args) .g) e (on check (48 ∷ []) ((any ⨾ kept′ target 3 suffixed′ ⨾ plus 1) ⨾ again′) empty) refl ((c .before .before .before .loop) .at) (((c .before .before .before .loop) .inv) .1) ∙ check-out ((c .before .before .before .before .before .before .args) .stream .now) (ranks ((c .before .before .before .before .before .before .args) .ranking)) 0 (readers ((c .before .before .before .before .before .before .args) .stream .now) (ranks ((c .before .before .before .before .before .before .args) .ranking)) ((c .before .before .before .before .before .before .args) .g)) (hold 0 e none) (under ((c .before .before .before .before .before .before .args) .stream .now) ((c .before .before .before .before .before .before .args) .ranking) 0 ((c .before .before .before .before .before .before .args) .g) e (iter (on check (48 ∷ []) ((any ⨾ kept′ target 3 suffixed′ ⨾ plus 1) ⨾ again′) empty))) ((c .before .before .before .loop) .at) 48 ((any ⨾ kept′ target 3 suffixed′ ⨾ plus 1) ⨾ again′) empty (λ z. omega arith) ((c .before .before .check-ahead) .ensures) (not-true (((c .before .before .check-ahead) .result) .found) ((c .if1) .taken))) p (((c .before .before .before .loop) .inv) .1) (((c .before .before .before .loop) .inv) .2)) (omega arith)), omega (arith, p, ((c .before .before .before .loop) .inv) .3))
+    let p′ = (check-note ((c .before .before .before .before .before .before .args) .stream .now) ((c .before .before .before .loop) .at) 0 48 ((c .before .before .check-ahead) .ensures)) in
+    λ e h. (revalue (omega arith) (ends (((c .before .before .before .loop) .inv) .5 e h) (looked _ ((c .before .before .before .loop) .u) 0 ((c .before .before .before .loop) .at) (((c .before .before .check-ahead) .result) .cursor) (looping ((c .before .before .before .before .before .before .args) .stream .now) ((c .before .before .before .before .before .before .args) .ranking) 0 ((c .before .before .before .before .before .before .args) .g) e (on check (48 ∷ []) ((any ⨾ kept′ target 3 suffixed′ ⨾ plus 1) ⨾ again′) empty) refl ((c .before .before .before .loop) .at) (((c .before .before .before .loop) .inv) .1) ∙ check-out ((c .before .before .before .before .before .before .args) .stream .now) (ranks ((c .before .before .before .before .before .before .args) .ranking)) 0 (readers ((c .before .before .before .before .before .before .args) .stream .now) (ranks ((c .before .before .before .before .before .before .args) .ranking)) ((c .before .before .before .before .before .before .args) .g)) (hold 0 e none) (under ((c .before .before .before .before .before .before .args) .stream .now) ((c .before .before .before .before .before .before .args) .ranking) 0 ((c .before .before .before .before .before .before .args) .g) e (iter (on check (48 ∷ []) ((any ⨾ kept′ target 3 suffixed′ ⨾ plus 1) ⨾ again′) empty))) ((c .before .before .before .loop) .at) 48 ((any ⨾ kept′ target 3 suffixed′ ⨾ plus 1) ⨾ again′) empty (λ z. omega arith) ((c .before .before .check-ahead) .ensures) (not-true (((c .before .before .check-ahead) .result) .found) ((c .if1) .taken))) p p′ (((c .before .before .before .loop) .inv) .1) (((c .before .before .before .loop) .inv) .2)) (omega arith)), omega (arith, p, ((c .before .before .before .loop) .inv) .3))
 
 pub targs-take-next-requires : (t : ℕ) → targs-lts.Need-take-next-requires (
   check-ahead-reads.Asked,
@@ -185,6 +186,7 @@ pub targs-suffixed-requires : (t : ℕ) → targs-lts.Need-suffixed-requires (
 ) (targs-at t) targs.Post targs-Inv-loop targs-μ-loop
 targs-suffixed-requires t c κs =
     let p = (check-place ((c .before .before .before .before .before .before .before .before .before .before .before .args) .stream .now) ((c .before .before .before .before .before .before .before .before .loop) .at) 0 48 ((c .before .before .before .before .before .before .before .check-ahead) .ensures)) in
+    let p′ = (check-note ((c .before .before .before .before .before .before .before .before .before .before .before .args) .stream .now) ((c .before .before .before .before .before .before .before .before .loop) .at) 0 48 ((c .before .before .before .before .before .before .before .check-ahead) .ensures)) in
     (omega (arith, (c .before .before .before .before .before .before .before .before .before .before .before .pre) .0), ready-after (((c .before .before .before .before .before .before .before .before .loop) .inv) .0) (took-next ((c .before .before .before .before .before .before .before .before .before .before .before .args) .stream .now) (((c .before .before .before .before .before .before .before .check-ahead) .result) .cursor) ((sym ((c .before .before .before .before .take-next) .ensures)) ∙ (c .before .before .e) .given .1)) (omega (arith, ((c .before .before .before .before .before .before .before .before .loop) .inv) .2, p)))
 
 pub targs-enum-known-e-3 : (t : ℕ) → targs-lts.Need-enum-known-e-3 (
@@ -230,9 +232,10 @@ pub targs-returns-3 : (t : ℕ) → targs-lts.Need-returns-3 (
 unfolding read suffixed′ suffix′ primary′ args′ table′ field′ explist
 targs-returns-3 t c =
     let p = (check-place ((c .before .before .before .before .before .before .before .before .before .before .before .before .before .before .before .before .before .args) .stream .now) ((c .before .before .before .before .before .before .before .before .before .before .before .before .before .before .loop) .at) 0 48 ((c .before .before .before .before .before .before .before .before .before .before .before .before .before .check-ahead) .ensures)) in
+    let p′ = (check-note ((c .before .before .before .before .before .before .before .before .before .before .before .before .before .before .before .before .before .args) .stream .now) ((c .before .before .before .before .before .before .before .before .before .before .before .before .before .before .loop) .at) 0 48 ((c .before .before .before .before .before .before .before .before .before .before .before .before .before .check-ahead) .ensures)) in
     λ e h.
     let o = (looping ((c .before .before .before .before .before .before .before .before .before .before .before .before .before .before .before .before .before .args) .stream .now) ((c .before .before .before .before .before .before .before .before .before .before .before .before .before .before .before .before .before .args) .ranking) 0 ((c .before .before .before .before .before .before .before .before .before .before .before .before .before .before .before .before .before .args) .g) e (on check (48 ∷ []) ((any ⨾ kept′ target 3 suffixed′ ⨾ plus 1) ⨾ again′) empty) refl ((c .before .before .before .before .before .before .before .before .before .before .before .before .before .before .loop) .at) (((c .before .before .before .before .before .before .before .before .before .before .before .before .before .before .loop) .inv) .1) ∙ check-in ((c .before .before .before .before .before .before .before .before .before .before .before .before .before .before .before .before .before .args) .stream .now) (ranks ((c .before .before .before .before .before .before .before .before .before .before .before .before .before .before .before .before .before .args) .ranking)) 0 (readers ((c .before .before .before .before .before .before .before .before .before .before .before .before .before .before .before .before .before .args) .stream .now) (ranks ((c .before .before .before .before .before .before .before .before .before .before .before .before .before .before .before .before .before .args) .ranking)) ((c .before .before .before .before .before .before .before .before .before .before .before .before .before .before .before .before .before .args) .g)) (hold 0 e none) (under ((c .before .before .before .before .before .before .before .before .before .before .before .before .before .before .before .before .before .args) .stream .now) ((c .before .before .before .before .before .before .before .before .before .before .before .before .before .before .before .before .before .args) .ranking) 0 ((c .before .before .before .before .before .before .before .before .before .before .before .before .before .before .before .before .before .args) .g) e (iter (on check (48 ∷ []) ((any ⨾ kept′ target 3 suffixed′ ⨾ plus 1) ⨾ again′) empty))) ((c .before .before .before .before .before .before .before .before .before .before .before .before .before .before .loop) .at) 48 ((any ⨾ kept′ target 3 suffixed′ ⨾ plus 1) ⨾ again′) empty (λ z. omega arith) ((c .before .before .before .before .before .before .before .before .before .before .before .before .before .check-ahead) .ensures) (not-false (((c .before .before .before .before .before .before .before .before .before .before .before .before .before .check-ahead) .result) .found) ((c .before .before .before .before .before .before .before .before .before .before .before .if1) .left))) in
-    let f1 = any-fine ((c .before .before .before .before .before .before .before .before .before .before .before .before .before .before .before .before .before .args) .stream .now) (ranks ((c .before .before .before .before .before .before .before .before .before .before .before .before .before .before .before .before .before .args) .ranking)) 0 (readers ((c .before .before .before .before .before .before .before .before .before .before .before .before .before .before .before .before .before .args) .stream .now) (ranks ((c .before .before .before .before .before .before .before .before .before .before .before .before .before .before .before .before .before .args) .ranking)) ((c .before .before .before .before .before .before .before .before .before .before .before .before .before .before .before .before .before .args) .g)) (hold 0 e none) (under ((c .before .before .before .before .before .before .before .before .before .before .before .before .before .before .before .before .before .args) .stream .now) ((c .before .before .before .before .before .before .before .before .before .before .before .before .before .before .before .before .before .args) .ranking) 0 ((c .before .before .before .before .before .before .before .before .before .before .before .before .before .before .before .before .before .args) .g) e (iter (on check (48 ∷ []) ((any ⨾ kept′ target 3 suffixed′ ⨾ plus 1) ⨾ again′) empty))) (((c .before .before .before .before .before .before .before .before .before .before .before .before .before .check-ahead) .result) .cursor) ((c .before .before .before .before .before .before .before .before .before .before .before .before .before .before .loop) .nodes) ((c .before .before .before .before .before .before .before .before .before .before .before .before .before .before .loop) .u) 2 (((c .before .before .before .before .before .before .before .before .before .before .before .before .before .before .loop) .inv) .0) (omega (arith, ((c .before .before .before .before .before .before .before .before .before .before .before .before .before .before .loop) .inv) .2, p)) ((sym ((c .before .before .before .before .before .before .before .before .before .before .take-next) .ensures)) ∙ (c .before .before .before .before .before .before .before .before .e) .given .1) in
+    let f1 = renoted p′ (any-fine ((c .before .before .before .before .before .before .before .before .before .before .before .before .before .before .before .before .before .args) .stream .now) (ranks ((c .before .before .before .before .before .before .before .before .before .before .before .before .before .before .before .before .before .args) .ranking)) 0 (readers ((c .before .before .before .before .before .before .before .before .before .before .before .before .before .before .before .before .before .args) .stream .now) (ranks ((c .before .before .before .before .before .before .before .before .before .before .before .before .before .before .before .before .before .args) .ranking)) ((c .before .before .before .before .before .before .before .before .before .before .before .before .before .before .before .before .before .args) .g)) (hold 0 e none) (under ((c .before .before .before .before .before .before .before .before .before .before .before .before .before .before .before .before .before .args) .stream .now) ((c .before .before .before .before .before .before .before .before .before .before .before .before .before .before .before .before .before .args) .ranking) 0 ((c .before .before .before .before .before .before .before .before .before .before .before .before .before .before .before .before .before .args) .g) e (iter (on check (48 ∷ []) ((any ⨾ kept′ target 3 suffixed′ ⨾ plus 1) ⨾ again′) empty))) (((c .before .before .before .before .before .before .before .before .before .before .before .before .before .check-ahead) .result) .cursor) ((c .before .before .before .before .before .before .before .before .before .before .before .before .before .before .loop) .nodes) ((c .before .before .before .before .before .before .before .before .before .before .before .before .before .before .loop) .u) 2 (((c .before .before .before .before .before .before .before .before .before .before .before .before .before .before .loop) .inv) .0) (omega (arith, ((c .before .before .before .before .before .before .before .before .before .before .before .before .before .before .loop) .inv) .2, p)) ((sym ((c .before .before .before .before .before .before .before .before .before .before .take-next) .ensures)) ∙ (c .before .before .before .before .before .before .before .before .e) .given .1)) in
     let st = settled ((c .before .before .before .before .before .before .before .before .before .before .before .before .before .before .before .before .before .args) .stream .now) ((c .before .before .before .before .before .before .before .before .before .before .before .before .before .before .before .before .before .args) .ranking) 0 ((c .before .before .before .before .before .before .before .before .before .before .before .before .before .before .before .before .before .args) .g) (hold 0 e none) (under ((c .before .before .before .before .before .before .before .before .before .before .before .before .before .before .before .before .before .args) .stream .now) ((c .before .before .before .before .before .before .before .before .before .before .before .before .before .before .before .before .before .args) .ranking) 0 ((c .before .before .before .before .before .before .before .before .before .before .before .before .before .before .before .before .before .args) .g) e (iter (on check (48 ∷ []) ((any ⨾ kept′ target 3 suffixed′ ⨾ plus 1) ⨾ again′) empty))) suffixed′ refl ((c .before .before .before .before .before .before .before .before .e) .given .0 .1 .0) in
     fails (((c .before .before .before .before .before .before .before .before .before .before .before .before .before .before .loop) .inv) .5 e h) (o ∙ stop (under ((c .before .before .before .before .before .before .before .before .before .before .before .before .before .before .before .before .before .args) .stream .now) ((c .before .before .before .before .before .before .before .before .before .before .before .before .before .before .before .before .before .args) .ranking) 0 ((c .before .before .before .before .before .before .before .before .before .before .before .before .before .before .before .before .before .args) .g) e (iter (on check (48 ∷ []) ((any ⨾ kept′ target 3 suffixed′ ⨾ plus 1) ⨾ again′) empty))) (past (read ((c .before .before .before .before .before .before .before .before .before .before .before .before .before .before .before .before .before .args) .stream .now) (ranks ((c .before .before .before .before .before .before .before .before .before .before .before .before .before .before .before .before .before .args) .ranking)) 0 (readers ((c .before .before .before .before .before .before .before .before .before .before .before .before .before .before .before .before .before .args) .stream .now) (ranks ((c .before .before .before .before .before .before .before .before .before .before .before .before .before .before .before .before .before .args) .ranking)) ((c .before .before .before .before .before .before .before .before .before .before .before .before .before .before .before .before .before .args) .g)) (hold 0 e none) (kept′ target 3 suffixed′ ⨾ plus 1) (under ((c .before .before .before .before .before .before .before .before .before .before .before .before .before .before .before .before .before .args) .stream .now) ((c .before .before .before .before .before .before .before .before .before .before .before .before .before .before .before .before .before .args) .ranking) 0 ((c .before .before .before .before .before .before .before .before .before .before .before .before .before .before .before .before .before .args) .g) e (iter (on check (48 ∷ []) ((any ⨾ kept′ target 3 suffixed′ ⨾ plus 1) ⨾ again′) empty)))) f1 (stop (read ((c .before .before .before .before .before .before .before .before .before .before .before .before .before .before .before .before .before .args) .stream .now) (ranks ((c .before .before .before .before .before .before .before .before .before .before .before .before .before .before .before .before .before .args) .ranking)) 0 (readers ((c .before .before .before .before .before .before .before .before .before .before .before .before .before .before .before .before .before .args) .stream .now) (ranks ((c .before .before .before .before .before .before .before .before .before .before .before .before .before .before .before .before .before .args) .ranking)) ((c .before .before .before .before .before .before .before .before .before .before .before .before .before .before .before .before .before .args) .g)) (hold 0 e none) (plus 1) (under ((c .before .before .before .before .before .before .before .before .before .before .before .before .before .before .before .before .before .args) .stream .now) ((c .before .before .before .before .before .before .before .before .before .before .before .before .before .before .before .before .before .args) .ranking) 0 ((c .before .before .before .before .before .before .before .before .before .before .before .before .before .before .before .before .before .args) .g) e (iter (on check (48 ∷ []) ((any ⨾ kept′ target 3 suffixed′ ⨾ plus 1) ⨾ again′) empty)))) (ap (keep target (record { number = 3; line = lineAt ((c .before .before .before .before .before .before .before .before .before .before .before .before .before .before .before .before .before .args) .stream .now) e; found = 0; expected = 0 })) (st ∙ rw ((c .before .e3) .given .1) at ((c .before .before .before .before .before .suffixed) .ensures))))))
 
@@ -307,11 +310,12 @@ pub targs-returns-4 : (t : ℕ) → targs-lts.Need-returns-4 (
 unfolding read suffixed′ suffix′ primary′ args′ table′ field′ explist
 targs-returns-4 t c =
     let p = (check-place ((c .before .before .before .before .before .before .before .before .before .before .before .before .before .before .before .before .before .before .before .before .args) .stream .now) ((c .before .before .before .before .before .before .before .before .before .before .before .before .before .before .before .before .before .loop) .at) 0 48 ((c .before .before .before .before .before .before .before .before .before .before .before .before .before .before .before .before .check-ahead) .ensures)) in
+    let p′ = (check-note ((c .before .before .before .before .before .before .before .before .before .before .before .before .before .before .before .before .before .before .before .before .args) .stream .now) ((c .before .before .before .before .before .before .before .before .before .before .before .before .before .before .before .before .before .loop) .at) 0 48 ((c .before .before .before .before .before .before .before .before .before .before .before .before .before .before .before .before .check-ahead) .ensures)) in
     let y = rw ((c .before .before .before .before .f) .given .1) at ((c .before .before .before .before .before .before .before .before .suffixed) .ensures) in
     let sh = suffixed-fits ((c .before .before .before .before .before .before .before .before .before .before .before .before .before .before .before .before .before .before .before .before .args) .stream .now) ((c .before .before .before .before .before .before .before .before .before .before .before .before .before .before .before .before .before .before .before .before .args) .ranking) ((c .before .before .before .before .before .before .before .before .before .before .before .before .before .before .before .before .before .before .before .before .args) .g) ((c .before .before .before .before .before .before .before .before .before .before .before .e) .given .0 .1 .0) target (y .0) (y .1) ∙ sym ((c .before .before .is-target) .ensures) in
     λ e h.
     let o = (looping ((c .before .before .before .before .before .before .before .before .before .before .before .before .before .before .before .before .before .before .before .before .args) .stream .now) ((c .before .before .before .before .before .before .before .before .before .before .before .before .before .before .before .before .before .before .before .before .args) .ranking) 0 ((c .before .before .before .before .before .before .before .before .before .before .before .before .before .before .before .before .before .before .before .before .args) .g) e (on check (48 ∷ []) ((any ⨾ kept′ target 3 suffixed′ ⨾ plus 1) ⨾ again′) empty) refl ((c .before .before .before .before .before .before .before .before .before .before .before .before .before .before .before .before .before .loop) .at) (((c .before .before .before .before .before .before .before .before .before .before .before .before .before .before .before .before .before .loop) .inv) .1) ∙ check-in ((c .before .before .before .before .before .before .before .before .before .before .before .before .before .before .before .before .before .before .before .before .args) .stream .now) (ranks ((c .before .before .before .before .before .before .before .before .before .before .before .before .before .before .before .before .before .before .before .before .args) .ranking)) 0 (readers ((c .before .before .before .before .before .before .before .before .before .before .before .before .before .before .before .before .before .before .before .before .args) .stream .now) (ranks ((c .before .before .before .before .before .before .before .before .before .before .before .before .before .before .before .before .before .before .before .before .args) .ranking)) ((c .before .before .before .before .before .before .before .before .before .before .before .before .before .before .before .before .before .before .before .before .args) .g)) (hold 0 e none) (under ((c .before .before .before .before .before .before .before .before .before .before .before .before .before .before .before .before .before .before .before .before .args) .stream .now) ((c .before .before .before .before .before .before .before .before .before .before .before .before .before .before .before .before .before .before .before .before .args) .ranking) 0 ((c .before .before .before .before .before .before .before .before .before .before .before .before .before .before .before .before .before .before .before .before .args) .g) e (iter (on check (48 ∷ []) ((any ⨾ kept′ target 3 suffixed′ ⨾ plus 1) ⨾ again′) empty))) ((c .before .before .before .before .before .before .before .before .before .before .before .before .before .before .before .before .before .loop) .at) 48 ((any ⨾ kept′ target 3 suffixed′ ⨾ plus 1) ⨾ again′) empty (λ z. omega arith) ((c .before .before .before .before .before .before .before .before .before .before .before .before .before .before .before .before .check-ahead) .ensures) (not-false (((c .before .before .before .before .before .before .before .before .before .before .before .before .before .before .before .before .check-ahead) .result) .found) ((c .before .before .before .before .before .before .before .before .before .before .before .before .before .before .if1) .left))) in
-    let f1 = any-fine ((c .before .before .before .before .before .before .before .before .before .before .before .before .before .before .before .before .before .before .before .before .args) .stream .now) (ranks ((c .before .before .before .before .before .before .before .before .before .before .before .before .before .before .before .before .before .before .before .before .args) .ranking)) 0 (readers ((c .before .before .before .before .before .before .before .before .before .before .before .before .before .before .before .before .before .before .before .before .args) .stream .now) (ranks ((c .before .before .before .before .before .before .before .before .before .before .before .before .before .before .before .before .before .before .before .before .args) .ranking)) ((c .before .before .before .before .before .before .before .before .before .before .before .before .before .before .before .before .before .before .before .before .args) .g)) (hold 0 e none) (under ((c .before .before .before .before .before .before .before .before .before .before .before .before .before .before .before .before .before .before .before .before .args) .stream .now) ((c .before .before .before .before .before .before .before .before .before .before .before .before .before .before .before .before .before .before .before .before .args) .ranking) 0 ((c .before .before .before .before .before .before .before .before .before .before .before .before .before .before .before .before .before .before .before .before .args) .g) e (iter (on check (48 ∷ []) ((any ⨾ kept′ target 3 suffixed′ ⨾ plus 1) ⨾ again′) empty))) (((c .before .before .before .before .before .before .before .before .before .before .before .before .before .before .before .before .check-ahead) .result) .cursor) ((c .before .before .before .before .before .before .before .before .before .before .before .before .before .before .before .before .before .loop) .nodes) ((c .before .before .before .before .before .before .before .before .before .before .before .before .before .before .before .before .before .loop) .u) 2 (((c .before .before .before .before .before .before .before .before .before .before .before .before .before .before .before .before .before .loop) .inv) .0) (omega (arith, ((c .before .before .before .before .before .before .before .before .before .before .before .before .before .before .before .before .before .loop) .inv) .2, p)) ((sym ((c .before .before .before .before .before .before .before .before .before .before .before .before .before .take-next) .ensures)) ∙ (c .before .before .before .before .before .before .before .before .before .before .before .e) .given .1) in
+    let f1 = renoted p′ (any-fine ((c .before .before .before .before .before .before .before .before .before .before .before .before .before .before .before .before .before .before .before .before .args) .stream .now) (ranks ((c .before .before .before .before .before .before .before .before .before .before .before .before .before .before .before .before .before .before .before .before .args) .ranking)) 0 (readers ((c .before .before .before .before .before .before .before .before .before .before .before .before .before .before .before .before .before .before .before .before .args) .stream .now) (ranks ((c .before .before .before .before .before .before .before .before .before .before .before .before .before .before .before .before .before .before .before .before .args) .ranking)) ((c .before .before .before .before .before .before .before .before .before .before .before .before .before .before .before .before .before .before .before .before .args) .g)) (hold 0 e none) (under ((c .before .before .before .before .before .before .before .before .before .before .before .before .before .before .before .before .before .before .before .before .args) .stream .now) ((c .before .before .before .before .before .before .before .before .before .before .before .before .before .before .before .before .before .before .before .before .args) .ranking) 0 ((c .before .before .before .before .before .before .before .before .before .before .before .before .before .before .before .before .before .before .before .before .args) .g) e (iter (on check (48 ∷ []) ((any ⨾ kept′ target 3 suffixed′ ⨾ plus 1) ⨾ again′) empty))) (((c .before .before .before .before .before .before .before .before .before .before .before .before .before .before .before .before .check-ahead) .result) .cursor) ((c .before .before .before .before .before .before .before .before .before .before .before .before .before .before .before .before .before .loop) .nodes) ((c .before .before .before .before .before .before .before .before .before .before .before .before .before .before .before .before .before .loop) .u) 2 (((c .before .before .before .before .before .before .before .before .before .before .before .before .before .before .before .before .before .loop) .inv) .0) (omega (arith, ((c .before .before .before .before .before .before .before .before .before .before .before .before .before .before .before .before .before .loop) .inv) .2, p)) ((sym ((c .before .before .before .before .before .before .before .before .before .before .before .before .before .take-next) .ensures)) ∙ (c .before .before .before .before .before .before .before .before .before .before .before .e) .given .1)) in
     let st = settled ((c .before .before .before .before .before .before .before .before .before .before .before .before .before .before .before .before .before .before .before .before .args) .stream .now) ((c .before .before .before .before .before .before .before .before .before .before .before .before .before .before .before .before .before .before .before .before .args) .ranking) 0 ((c .before .before .before .before .before .before .before .before .before .before .before .before .before .before .before .before .before .before .before .before .args) .g) (hold 0 e none) (under ((c .before .before .before .before .before .before .before .before .before .before .before .before .before .before .before .before .before .before .before .before .args) .stream .now) ((c .before .before .before .before .before .before .before .before .before .before .before .before .before .before .before .before .before .before .before .before .args) .ranking) 0 ((c .before .before .before .before .before .before .before .before .before .before .before .before .before .before .before .before .before .before .before .before .args) .g) e (iter (on check (48 ∷ []) ((any ⨾ kept′ target 3 suffixed′ ⨾ plus 1) ⨾ again′) empty))) suffixed′ refl ((c .before .before .before .before .before .before .before .before .before .before .before .e) .given .0 .1 .0) in
     fails (((c .before .before .before .before .before .before .before .before .before .before .before .before .before .before .before .before .before .loop) .inv) .5 e h) (o ∙ stop (under ((c .before .before .before .before .before .before .before .before .before .before .before .before .before .before .before .before .before .before .before .before .args) .stream .now) ((c .before .before .before .before .before .before .before .before .before .before .before .before .before .before .before .before .before .before .before .before .args) .ranking) 0 ((c .before .before .before .before .before .before .before .before .before .before .before .before .before .before .before .before .before .before .before .before .args) .g) e (iter (on check (48 ∷ []) ((any ⨾ kept′ target 3 suffixed′ ⨾ plus 1) ⨾ again′) empty))) (past (read ((c .before .before .before .before .before .before .before .before .before .before .before .before .before .before .before .before .before .before .before .before .args) .stream .now) (ranks ((c .before .before .before .before .before .before .before .before .before .before .before .before .before .before .before .before .before .before .before .before .args) .ranking)) 0 (readers ((c .before .before .before .before .before .before .before .before .before .before .before .before .before .before .before .before .before .before .before .before .args) .stream .now) (ranks ((c .before .before .before .before .before .before .before .before .before .before .before .before .before .before .before .before .before .before .before .before .args) .ranking)) ((c .before .before .before .before .before .before .before .before .before .before .before .before .before .before .before .before .before .before .before .before .args) .g)) (hold 0 e none) (kept′ target 3 suffixed′ ⨾ plus 1) (under ((c .before .before .before .before .before .before .before .before .before .before .before .before .before .before .before .before .before .before .before .before .args) .stream .now) ((c .before .before .before .before .before .before .before .before .before .before .before .before .before .before .before .before .before .before .before .before .args) .ranking) 0 ((c .before .before .before .before .before .before .before .before .before .before .before .before .before .before .before .before .before .before .before .before .args) .g) e (iter (on check (48 ∷ []) ((any ⨾ kept′ target 3 suffixed′ ⨾ plus 1) ⨾ again′) empty)))) f1 (stop (read ((c .before .before .before .before .before .before .before .before .before .before .before .before .before .before .before .before .before .before .before .before .args) .stream .now) (ranks ((c .before .before .before .before .before .before .before .before .before .before .before .before .before .before .before .before .before .before .before .before .args) .ranking)) 0 (readers ((c .before .before .before .before .before .before .before .before .before .before .before .before .before .before .before .before .before .before .before .before .args) .stream .now) (ranks ((c .before .before .before .before .before .before .before .before .before .before .before .before .before .before .before .before .before .before .before .before .args) .ranking)) ((c .before .before .before .before .before .before .before .before .before .before .before .before .before .before .before .before .before .before .before .before .args) .g)) (hold 0 e none) (plus 1) (under ((c .before .before .before .before .before .before .before .before .before .before .before .before .before .before .before .before .before .before .before .before .args) .stream .now) ((c .before .before .before .before .before .before .before .before .before .before .before .before .before .before .before .before .before .before .before .before .args) .ranking) 0 ((c .before .before .before .before .before .before .before .before .before .before .before .before .before .before .before .before .before .before .before .before .args) .g) e (iter (on check (48 ∷ []) ((any ⨾ kept′ target 3 suffixed′ ⨾ plus 1) ⨾ again′) empty)))) (keep-fail target (record { number = 3; line = lineAt ((c .before .before .before .before .before .before .before .before .before .before .before .before .before .before .before .before .before .before .before .before .args) .stream .now) e; found = 0; expected = 0 }) st (y .0) (sh ∙ not-true ((c .before .before .is-target) .result) ((c .before .if2) .taken))))))
     ∙ ap (λ (z : ℕ). fail (record { number = 3; line = z; found = 0; expected = 0 })) (sym h) ∙ ap fail (sym ((c .misfit) .ensures))
@@ -344,6 +348,7 @@ pub targs-loop-less : (t : ℕ) → targs-lts.Need-loop-less (
 ) (targs-at t) targs.Post targs-Inv-loop targs-μ-loop
 targs-loop-less t c =
     let p = (check-place ((c .before .before .before .before .before .before .before .before .before .before .before .before .before .before .before .before .before .before .before .args) .stream .now) ((c .before .before .before .before .before .before .before .before .before .before .before .before .before .before .before .before .loop) .at) 0 48 ((c .before .before .before .before .before .before .before .before .before .before .before .before .before .before .before .check-ahead) .ensures)) in
+    let p′ = (check-note ((c .before .before .before .before .before .before .before .before .before .before .before .before .before .before .before .before .before .before .before .args) .stream .now) ((c .before .before .before .before .before .before .before .before .before .before .before .before .before .before .before .before .loop) .at) 0 48 ((c .before .before .before .before .before .before .before .before .before .before .before .before .before .before .before .check-ahead) .ensures)) in
     let y = rw ((c .before .before .before .f) .given .1) at ((c .before .before .before .before .before .before .before .suffixed) .ensures) in
     omega (arith, y .0 .later, y .0 .at, (took-next ((c .before .before .before .before .before .before .before .before .before .before .before .before .before .before .before .before .before .before .before .args) .stream .now) (((c .before .before .before .before .before .before .before .before .before .before .before .before .before .before .before .check-ahead) .result) .cursor) ((sym ((c .before .before .before .before .before .before .before .before .before .before .before .before .take-next) .ensures)) ∙ (c .before .before .before .before .before .before .before .before .before .before .e) .given .1)) .place, p)
 
@@ -362,6 +367,7 @@ pub targs-loop-again : (t : ℕ) → targs-lts.Need-loop-again (
 unfolding read suffixed′ suffix′ primary′ args′ table′ field′ explist
 targs-loop-again t c =
     let p = (check-place ((c .before .before .before .before .before .before .before .before .before .before .before .before .before .before .before .before .before .before .before .args) .stream .now) ((c .before .before .before .before .before .before .before .before .before .before .before .before .before .before .before .before .loop) .at) 0 48 ((c .before .before .before .before .before .before .before .before .before .before .before .before .before .before .before .check-ahead) .ensures)) in
+    let p′ = (check-note ((c .before .before .before .before .before .before .before .before .before .before .before .before .before .before .before .before .before .before .before .args) .stream .now) ((c .before .before .before .before .before .before .before .before .before .before .before .before .before .before .before .before .loop) .at) 0 48 ((c .before .before .before .before .before .before .before .before .before .before .before .before .before .before .before .check-ahead) .ensures)) in
     let y = rw ((c .before .before .before .f) .given .1) at ((c .before .before .before .before .before .before .before .suffixed) .ensures) in
     let sh = suffixed-fits ((c .before .before .before .before .before .before .before .before .before .before .before .before .before .before .before .before .before .before .before .args) .stream .now) ((c .before .before .before .before .before .before .before .before .before .before .before .before .before .before .before .before .before .before .before .args) .ranking) ((c .before .before .before .before .before .before .before .before .before .before .before .before .before .before .before .before .before .before .before .args) .g) ((c .before .before .before .before .before .before .before .before .before .before .e) .given .0 .1 .0) target (y .0) (y .1) ∙ sym ((c .before .is-target) .ensures) in (
       ((c .before .before .before .before .before .before .before .before .before .before .before .before .before .before .before .before .loop) .inv) .0,
@@ -371,7 +377,7 @@ targs-loop-again t c =
       kept (y .0) ∙ ((c .before .before .before .before .before .before .before .before .before .before .before .before .before .before .before .before .loop) .inv) .4,
       λ e h.
           let o = (looping ((c .before .before .before .before .before .before .before .before .before .before .before .before .before .before .before .before .before .before .before .args) .stream .now) ((c .before .before .before .before .before .before .before .before .before .before .before .before .before .before .before .before .before .before .before .args) .ranking) 0 ((c .before .before .before .before .before .before .before .before .before .before .before .before .before .before .before .before .before .before .before .args) .g) e (on check (48 ∷ []) ((any ⨾ kept′ target 3 suffixed′ ⨾ plus 1) ⨾ again′) empty) refl ((c .before .before .before .before .before .before .before .before .before .before .before .before .before .before .before .before .loop) .at) (((c .before .before .before .before .before .before .before .before .before .before .before .before .before .before .before .before .loop) .inv) .1) ∙ check-in ((c .before .before .before .before .before .before .before .before .before .before .before .before .before .before .before .before .before .before .before .args) .stream .now) (ranks ((c .before .before .before .before .before .before .before .before .before .before .before .before .before .before .before .before .before .before .before .args) .ranking)) 0 (readers ((c .before .before .before .before .before .before .before .before .before .before .before .before .before .before .before .before .before .before .before .args) .stream .now) (ranks ((c .before .before .before .before .before .before .before .before .before .before .before .before .before .before .before .before .before .before .before .args) .ranking)) ((c .before .before .before .before .before .before .before .before .before .before .before .before .before .before .before .before .before .before .before .args) .g)) (hold 0 e none) (under ((c .before .before .before .before .before .before .before .before .before .before .before .before .before .before .before .before .before .before .before .args) .stream .now) ((c .before .before .before .before .before .before .before .before .before .before .before .before .before .before .before .before .before .before .before .args) .ranking) 0 ((c .before .before .before .before .before .before .before .before .before .before .before .before .before .before .before .before .before .before .before .args) .g) e (iter (on check (48 ∷ []) ((any ⨾ kept′ target 3 suffixed′ ⨾ plus 1) ⨾ again′) empty))) ((c .before .before .before .before .before .before .before .before .before .before .before .before .before .before .before .before .loop) .at) 48 ((any ⨾ kept′ target 3 suffixed′ ⨾ plus 1) ⨾ again′) empty (λ z. omega arith) ((c .before .before .before .before .before .before .before .before .before .before .before .before .before .before .before .check-ahead) .ensures) (not-false (((c .before .before .before .before .before .before .before .before .before .before .before .before .before .before .before .check-ahead) .result) .found) ((c .before .before .before .before .before .before .before .before .before .before .before .before .before .if1) .left))) in
-          let f1 = any-fine ((c .before .before .before .before .before .before .before .before .before .before .before .before .before .before .before .before .before .before .before .args) .stream .now) (ranks ((c .before .before .before .before .before .before .before .before .before .before .before .before .before .before .before .before .before .before .before .args) .ranking)) 0 (readers ((c .before .before .before .before .before .before .before .before .before .before .before .before .before .before .before .before .before .before .before .args) .stream .now) (ranks ((c .before .before .before .before .before .before .before .before .before .before .before .before .before .before .before .before .before .before .before .args) .ranking)) ((c .before .before .before .before .before .before .before .before .before .before .before .before .before .before .before .before .before .before .before .args) .g)) (hold 0 e none) (under ((c .before .before .before .before .before .before .before .before .before .before .before .before .before .before .before .before .before .before .before .args) .stream .now) ((c .before .before .before .before .before .before .before .before .before .before .before .before .before .before .before .before .before .before .before .args) .ranking) 0 ((c .before .before .before .before .before .before .before .before .before .before .before .before .before .before .before .before .before .before .before .args) .g) e (iter (on check (48 ∷ []) ((any ⨾ kept′ target 3 suffixed′ ⨾ plus 1) ⨾ again′) empty))) (((c .before .before .before .before .before .before .before .before .before .before .before .before .before .before .before .check-ahead) .result) .cursor) ((c .before .before .before .before .before .before .before .before .before .before .before .before .before .before .before .before .loop) .nodes) ((c .before .before .before .before .before .before .before .before .before .before .before .before .before .before .before .before .loop) .u) 2 (((c .before .before .before .before .before .before .before .before .before .before .before .before .before .before .before .before .loop) .inv) .0) (omega (arith, ((c .before .before .before .before .before .before .before .before .before .before .before .before .before .before .before .before .loop) .inv) .2, p)) ((sym ((c .before .before .before .before .before .before .before .before .before .before .before .before .take-next) .ensures)) ∙ (c .before .before .before .before .before .before .before .before .before .before .e) .given .1) in
+          let f1 = renoted p′ (any-fine ((c .before .before .before .before .before .before .before .before .before .before .before .before .before .before .before .before .before .before .before .args) .stream .now) (ranks ((c .before .before .before .before .before .before .before .before .before .before .before .before .before .before .before .before .before .before .before .args) .ranking)) 0 (readers ((c .before .before .before .before .before .before .before .before .before .before .before .before .before .before .before .before .before .before .before .args) .stream .now) (ranks ((c .before .before .before .before .before .before .before .before .before .before .before .before .before .before .before .before .before .before .before .args) .ranking)) ((c .before .before .before .before .before .before .before .before .before .before .before .before .before .before .before .before .before .before .before .args) .g)) (hold 0 e none) (under ((c .before .before .before .before .before .before .before .before .before .before .before .before .before .before .before .before .before .before .before .args) .stream .now) ((c .before .before .before .before .before .before .before .before .before .before .before .before .before .before .before .before .before .before .before .args) .ranking) 0 ((c .before .before .before .before .before .before .before .before .before .before .before .before .before .before .before .before .before .before .before .args) .g) e (iter (on check (48 ∷ []) ((any ⨾ kept′ target 3 suffixed′ ⨾ plus 1) ⨾ again′) empty))) (((c .before .before .before .before .before .before .before .before .before .before .before .before .before .before .before .check-ahead) .result) .cursor) ((c .before .before .before .before .before .before .before .before .before .before .before .before .before .before .before .before .loop) .nodes) ((c .before .before .before .before .before .before .before .before .before .before .before .before .before .before .before .before .loop) .u) 2 (((c .before .before .before .before .before .before .before .before .before .before .before .before .before .before .before .before .loop) .inv) .0) (omega (arith, ((c .before .before .before .before .before .before .before .before .before .before .before .before .before .before .before .before .loop) .inv) .2, p)) ((sym ((c .before .before .before .before .before .before .before .before .before .before .before .before .take-next) .ensures)) ∙ (c .before .before .before .before .before .before .before .before .before .before .e) .given .1)) in
           let st = settled ((c .before .before .before .before .before .before .before .before .before .before .before .before .before .before .before .before .before .before .before .args) .stream .now) ((c .before .before .before .before .before .before .before .before .before .before .before .before .before .before .before .before .before .before .before .args) .ranking) 0 ((c .before .before .before .before .before .before .before .before .before .before .before .before .before .before .before .before .before .before .before .args) .g) (hold 0 e none) (under ((c .before .before .before .before .before .before .before .before .before .before .before .before .before .before .before .before .before .before .before .args) .stream .now) ((c .before .before .before .before .before .before .before .before .before .before .before .before .before .before .before .before .before .before .before .args) .ranking) 0 ((c .before .before .before .before .before .before .before .before .before .before .before .before .before .before .before .before .before .before .before .args) .g) e (iter (on check (48 ∷ []) ((any ⨾ kept′ target 3 suffixed′ ⨾ plus 1) ⨾ again′) empty))) suffixed′ refl ((c .before .before .before .before .before .before .before .before .before .before .e) .given .0 .1 .0) in
           let f2 = keep-fine target (record { number = 3; line = lineAt ((c .before .before .before .before .before .before .before .before .before .before .before .before .before .before .before .before .before .before .before .args) .stream .now) e; found = 0; expected = 0 }) st (y .0) (sh ∙ not-false ((c .before .is-target) .result) ((c .if2) .left)) in
           turns (((c .before .before .before .before .before .before .before .before .before .before .before .before .before .before .before .before .loop) .inv) .5 e h) o (both (read ((c .before .before .before .before .before .before .before .before .before .before .before .before .before .before .before .before .before .before .before .args) .stream .now) (ranks ((c .before .before .before .before .before .before .before .before .before .before .before .before .before .before .before .before .before .before .before .args) .ranking)) 0 (readers ((c .before .before .before .before .before .before .before .before .before .before .before .before .before .before .before .before .before .before .before .args) .stream .now) (ranks ((c .before .before .before .before .before .before .before .before .before .before .before .before .before .before .before .before .before .before .before .args) .ranking)) ((c .before .before .before .before .before .before .before .before .before .before .before .before .before .before .before .before .before .before .before .args) .g)) (hold 0 e none) (kept′ target 3 suffixed′ ⨾ plus 1) (under ((c .before .before .before .before .before .before .before .before .before .before .before .before .before .before .before .before .before .before .before .args) .stream .now) ((c .before .before .before .before .before .before .before .before .before .before .before .before .before .before .before .before .before .before .before .args) .ranking) 0 ((c .before .before .before .before .before .before .before .before .before .before .before .before .before .before .before .before .before .before .before .args) .g) e (iter (on check (48 ∷ []) ((any ⨾ kept′ target 3 suffixed′ ⨾ plus 1) ⨾ again′) empty)))) f1 (both (read ((c .before .before .before .before .before .before .before .before .before .before .before .before .before .before .before .before .before .before .before .args) .stream .now) (ranks ((c .before .before .before .before .before .before .before .before .before .before .before .before .before .before .before .before .before .before .before .args) .ranking)) 0 (readers ((c .before .before .before .before .before .before .before .before .before .before .before .before .before .before .before .before .before .before .before .args) .stream .now) (ranks ((c .before .before .before .before .before .before .before .before .before .before .before .before .before .before .before .before .before .before .before .args) .ranking)) ((c .before .before .before .before .before .before .before .before .before .before .before .before .before .before .before .before .before .before .before .args) .g)) (hold 0 e none) (plus 1) (under ((c .before .before .before .before .before .before .before .before .before .before .before .before .before .before .before .before .before .before .before .args) .stream .now) ((c .before .before .before .before .before .before .before .before .before .before .before .before .before .before .before .before .before .before .before .args) .ranking) 0 ((c .before .before .before .before .before .before .before .before .before .before .before .before .before .before .before .before .before .before .before .args) .g) e (iter (on check (48 ∷ []) ((any ⨾ kept′ target 3 suffixed′ ⨾ plus 1) ⨾ again′) empty)))) f2 (weighs _ _ 0 1 _ (y .0 .at) (y .0 .room)) (omega arith)) (omega arith)) (omega (arith, p)) (y .0 .room),

@@ -256,4 +256,4 @@ whiles-returns-4 t c =
     let f1 = word-fine ((c .before .before .before .before .before .before .before .before .before .before .before .before .before .before .before .before .before .before .before .before .before .before .before .before .args) .stream .now) (ranks ((c .before .before .before .before .before .before .before .before .before .before .before .before .before .before .before .before .before .before .before .before .before .before .before .before .args) .ranking)) 0 (readers ((c .before .before .before .before .before .before .before .before .before .before .before .before .before .before .before .before .before .before .before .before .before .before .before .before .args) .stream .now) (ranks ((c .before .before .before .before .before .before .before .before .before .before .before .before .before .before .before .before .before .before .before .before .before .before .before .before .args) .ranking)) ((c .before .before .before .before .before .before .before .before .before .before .before .before .before .before .before .before .before .before .before .before .before .before .before .before .args) .g)) (hold 0 0 none) again ((c .before .before .before .before .before .before .before .before .before .before .before .before .before .before .before .before .before .before .before .before .before .before .before .before .args) .c) ((c .before .before .before .before .before .before .before .before .before .before .before .before .before .before .before .before .before .before .before .before .before .before .before .before .args) .nodes .now) (((c .before .before .before .before .before .before .before .before .before .before .before .before .before .before .before .before .before .before .before .before .before .before .before .before .args) .used) + 1) 0 (((c .before .before .before .before .before .before .before .before .before .before .before .before .before .before .before .before .before .before .before .before .before .before .before .before .pre) .1 .0) .formed) (omega (arith, ((c .before .before .before .before .before .before .before .before .before .before .before .before .before .before .before .before .before .before .before .before .before .before .before .before .pre) .1 .0) .room)) 21 refl refl ((sym ((c .before .before .before .before .before .before .before .before .before .before .before .before .before .before .before .before .before .before .before .before .before .expect-next) .ensures)) ∙ (c .before .before .before .before .before .before .before .before .before .before .before .before .before .before .before .before .before .before .before .d) .given .1) in
     let f2 = rw ((c .before .before .before .before .before .before .before .before .before .before .before .before .e3) .given .1) at ((c .before .before .before .before .before .before .before .before .before .before .before .before .before .before .before .before .sub) .ensures) in
     let f3 = rw ((c .before .before .before .before .before .f) .given .1) at ((c .before .before .before .before .before .before .before .before .before .body) .ensures) in
-    rw ((c .before .before .close) .ensures .0) (over 4 opening (((c .before .before .before .before .before .before .before .before .before .before .before .before .before .before .before .before .before .before .before .before .before .before .before .before .args) .c) .place) ((c .before .before .before .before .before .before .before .before .before .before .before .before .before .before .before .before .before .before .before .before .before .before .before .before .args) .line) (both _ f1 (both _ f2 f3 (omega arith)) (omega arith)) ((c .before .before .close) .ensures .1) ((c .before .before .before .before .before .before .before .before .before .before .before .before .before .before .before .before .before .before .before .before .before .before .before .before .pre) .1 .1))
+    rw ((c .before .before .close) .ensures .0) (over 4 opening (((c .before .before .before .before .before .before .before .before .before .before .before .before .before .before .before .before .before .before .before .before .before .before .before .before .args) .c) .place) ((c .before .before .before .before .before .before .before .before .before .before .before .before .before .before .before .before .before .before .before .before .before .before .before .before .args) .line) (refl, refl, refl) (both _ f1 (both _ f2 f3 (omega arith)) (omega arith)) ((c .before .before .close) .ensures .1) ((c .before .before .before .before .before .before .before .before .before .before .before .before .before .before .before .before .before .before .before .before .before .before .before .before .pre) .1 .1))

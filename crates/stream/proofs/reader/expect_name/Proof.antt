@@ -12,14 +12,14 @@ returns c =
     let t = c .before .before .before .token-at .ensures in
     fails _ _ d (c .end-of-stream .ensures) (name-end _ _ (rw t at (c .before .if1 .taken)))
 
-add-t8 : tie.Need-add-t8
-add-t8 c = record { fits = on _ _ (c .before .before .before .before .before .before .read-ahead .ensures) (c .before .before .before .before .before .token-at .ensures) (c .before .before .before .if1 .left) (c .before .before .before .before .before .before .before .before .good .0 .0) }
+add-t9 : tie.Need-add-t9
+add-t9 c = record { fits = on _ _ (c .before .before .before .before .before .before .before .read-ahead .ensures) (c .before .before .before .before .before .before .token-at .ensures) (c .before .before .before .before .if1 .left) (c .before .before .before .before .before .before .before .before .before .good .0 .0) }
 
 returns-2 : tie.Need-returns-2
 returns-2 c =
-    let d = c .before .before .before .before .before .before .read-ahead .ensures in
-    let t = c .before .before .before .before .before .token-at .ensures in
-    takes _ _ passed d t (name-kind _ _ (rw t at (c .before .if2 .taken)))
+    let d = c .before .before .before .before .before .before .before .read-ahead .ensures in
+    let t = c .before .before .before .before .before .before .token-at .ensures in
+    takes _ _ passed d t (name-kind _ _ (rw t at (c .before .before .if2 .taken)))
 
 returns-3 : tie.Need-returns-3
 returns-3 c =
@@ -35,7 +35,7 @@ expect-name-spec =
     (λ c κs. tt)
     (λ c κs. tt)
     returns
-    add-t8
+    add-t9
     (λ c κs. tt)
     returns-2
     returns-3)

@@ -12,14 +12,14 @@ returns c =
     let t = c .before .before .before .before .token-at .ensures in
     fails _ _ d (rw (c .before .before .before .wrapping-add-u64 .ensures) at (c .end-of-stream .ensures)) (expect-end _ _ _ (rw t at (c .before .if1 .taken)))
 
-add-t10 : tie.Need-add-t10
-add-t10 c = record { fits = on _ _ (c .before .before .before .before .before .before .before .read-ahead .ensures) (c .before .before .before .before .before .before .token-at .ensures) (c .before .before .before .if1 .left) (c .before .before .before .before .before .before .before .before .before .good .0 .0) }
+add-t11 : tie.Need-add-t11
+add-t11 c = record { fits = on _ _ (c .before .before .before .before .before .before .before .before .read-ahead .ensures) (c .before .before .before .before .before .before .before .token-at .ensures) (c .before .before .before .before .if1 .left) (c .before .before .before .before .before .before .before .before .before .before .good .0 .0) }
 
 returns-2 : tie.Need-returns-2
 returns-2 c =
-    let d = c .before .before .before .before .before .before .before .read-ahead .ensures in
-    let t = c .before .before .before .before .before .before .token-at .ensures in
-    takes _ _ passed d t (expect-kind _ _ _ (rw t at (c .before .before .before .if1 .left)) (rw t at (c .before .if2 .taken)))
+    let d = c .before .before .before .before .before .before .before .before .read-ahead .ensures in
+    let t = c .before .before .before .before .before .before .before .token-at .ensures in
+    takes _ _ passed d t (expect-kind _ _ _ (rw t at (c .before .before .before .before .if1 .left)) (rw t at (c .before .before .if2 .taken)))
 
 returns-3 : tie.Need-returns-3
 returns-3 c =
@@ -35,6 +35,6 @@ expect-next-spec =
     (λ c κs. tt)
     (λ c κs. tt)
     returns
-    add-t10
+    add-t11
     returns-2
     returns-3)

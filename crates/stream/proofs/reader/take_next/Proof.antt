@@ -11,14 +11,14 @@ returns c =
     let t = c .before .before .before .token-at .ensures in
     fails _ _ d (c .end-of-stream .ensures) (take-end _ _ (rw t at (c .before .if1 .taken)))
 
-add-t7 : tie.Need-add-t7
-add-t7 c = record { fits = on _ _ (c .before .before .before .before .read-ahead .ensures) (c .before .before .before .token-at .ensures) (c .before .if1 .left) (c .before .before .before .before .before .before .good .0 .0) }
+add-t8 : tie.Need-add-t8
+add-t8 c = record { fits = on _ _ (c .before .before .before .before .before .read-ahead .ensures) (c .before .before .before .before .token-at .ensures) (c .before .before .if1 .left) (c .before .before .before .before .before .before .before .good .0 .0) }
 
 returns-2 : tie.Need-returns-2
 returns-2 c =
-    let d = c .before .before .before .before .read-ahead .ensures in
-    let t = c .before .before .before .token-at .ensures in
-    takes _ _ passed d t (take-token _ _ (rw t at (c .before .if1 .left)))
+    let d = c .before .before .before .before .before .read-ahead .ensures in
+    let t = c .before .before .before .before .token-at .ensures in
+    takes _ _ passed d t (take-token _ _ (rw t at (c .before .before .if1 .left)))
 
 pub take-next-spec : {M : Type 1} → statement M
 take-next-spec =
@@ -28,5 +28,5 @@ take-next-spec =
     (λ c κs. tt)
     (λ c κs. tt)
     returns
-    add-t7
+    add-t8
     returns-2)

@@ -1,0 +1,89 @@
+-- One reading and what it promises: it derives a tree or tells why not, by a number of 1 to 5; the array keeps its length. Assumes nothing.
+use mathlib.Core.Path.{_≡_, refl, sym, ap, _∙_, subst}
+use mathlib.Core.List.{List, _++_}
+use mathlib.Core.Logic.{_⊎_, inl, inr, by-cases}
+use Prim.Native.Nat.{ℕ, _*_, _≤_}
+use native.Mathlib.Decide.{decLt}
+use native.Mathlib.Omega.{arith}
+use lib.ListN.{length, drop, length-append, length-drop, length-replicate}
+use lib.Seq.{drop-append-seam}
+use Rattle.stream.specs.Formed.{Formed, Malformed}
+use Rattle.stream.specs.declared.reader.Refusal.{Refusal}
+use Rattle.stream.proofs.Judged.{formed-or-not}
+use Rattle.operators.specs.Ranks.{ranks}
+use Rattle.operators.specs.declared.Ranking.{Ranking}
+use Rattle.tree.specs.Forest.{Forest, size, flat}
+use Rattle.tree.proofs.Lay.{length-flat}
+use Rattle.grammar.specs.Grammar.{Chunk}
+use Rattle.grammar.specs.Reading.{Out, fine, fail}
+use Rattle.grammar.specs.Levels.{chunk}
+use Rattle.grammar.proofs.Bounds.{Numbered, Bounded, bounded}
+use Rattle.grammar.proofs.Theorems.{sound, complete, is-ranked}
+use Rattle.parser.specs.declared.Answer.{Answer}
+use Rattle.parser.specs.Answered.{Answered, Zeroed}
+
+-- a tree is derived, or none is, and the reading tells why
+pub data Side (s : List ℕ) (r : Ranking) (levels : ℕ) : Type 0 where
+  derived : {t : Forest} → Chunk s (ranks r) levels t → Side s r levels
+  refused : {e : Refusal} → ((t : Forest) → Chunk s (ranks r) levels t → ⊥) → chunk s (ranks r) levels ≡ fail e → Side s r levels
+
+module _ (s : List ℕ) (r : Ranking) (levels : ℕ) where
+  pub refused-none : {e : Refusal} → chunk s (ranks r) levels ≡ fail e → (t : Forest) → Chunk s (ranks r) levels t → ⊥
+  refused-none x t d = let z : _≡_ {A = ℕ} 0 1 = cc (complete s (ranks r) levels (is-ranked r) d .1, x) in omega arith
+
+  pub side : Side s r levels
+  side = go (chunk s (ranks r) levels) refl
+    where
+      go : (o : Out) → chunk s (ranks r) levels ≡ o → Side s r levels
+      go (fine q m t v) x = derived (sound s (ranks r) levels (is-ranked r) x)
+      go (fail e) x = refused (refused-none x) x
+
+  pub numbers : {e : Refusal} → Formed s → chunk s (ranks r) levels ≡ fail e → Numbered (e .number)
+  numbers f x = subst (Bounded s) x (bounded s f (ranks r) levels)
+
+-- the array under a tree's words
+pub under : (n : List ℕ) (t : Forest) → drop (size t * 4) (flat t ++ drop (size t * 4) n) ≡ drop (size t * 4) n
+under n t = ap (λ (k : ℕ). drop k (flat t ++ drop (size t * 4) n)) (sym (length-flat t)) ∙ drop-append-seam (flat t) (drop (size t * 4) n)
+
+zeroed-length : (n : List ℕ) {n′ : List ℕ} → Zeroed n n′ → length n′ ≡ length n
+zeroed-length n e = ap length e ∙ length-replicate (length n) 0
+
+words-length : (n : List ℕ) (t : Forest) → size t * 4 ≤ length n → length (flat t ++ drop (size t * 4) n) ≡ length n
+words-length n t l = omega (arith, length-append (flat t) (drop (size t * 4) n), length-flat t, length-drop (size t * 4) n)
+
+module _ (s : List ℕ) (r : Ranking) {n n′ : List ℕ} {a : Answer} (x : Answered s r n n′ a) where
+  told : {b : Answer} → a ≡ b → a .number ≡ b .number
+  told e = ap (λ (z : Answer). z .number) e
+
+  -- its numbers, case by case
+  pub six : {p : ℕ} → Malformed s p → a .number ≡ 6
+  six {p} m = told (x .malformed p m .0)
+
+  pub accepted : {t : Forest} → Formed s → Chunk s (ranks r) 199 t → (a .number ≡ 0) ⊎ (a .number ≡ 7)
+  accepted {t} f d = by-cases (decLt (length n) (size t * 4)) (λ l. inr (told (x .short t f d l .0))) (λ l. inl (told (x .accepts t f d (omega arith) .0)))
+
+  pub declined : {e : Refusal} → Formed s → chunk s (ranks r) 199 ≡ fail e → Numbered (a .number)
+  declined {e} f c = let z = told (x .refuses e f (refused-none s r 199 c) c .0) in let k = numbers s r 199 f c in omega arith
+
+  -- the array keeps its length
+  pub kept : length n′ ≡ length n
+  kept = by-form (formed-or-not s)
+    where
+      by-side : Formed s → Side s r 199 → length n′ ≡ length n
+      by-side f (derived {t} d) =
+          by-cases (decLt (length n) (size t * 4)) (λ l. zeroed-length n (x .short t f d l .1))
+          (λ l. let k : size t * 4 ≤ length n = omega arith in ap length (x .accepts t f d k .1) ∙ words-length n t k)
+      by-side f (refused {e} none c) = zeroed-length n (x .refuses e f none c .1)
+
+      by-form : Formed s ⊎ ((p : ℕ) × Malformed s p) → length n′ ≡ length n
+      by-form (inl f) = by-side f (side s r 199)
+      by-form (inr b) = zeroed-length n (x .malformed (b .0) (b .1) .1)
+
+  -- 0 and 7 are told of well-formed streams alone
+  pub well : (a .number ≡ 0) ⊎ (a .number ≡ 7) → Formed s
+  well took = by-form (formed-or-not s) took
+    where
+      by-form : Formed s ⊎ ((p : ℕ) × Malformed s p) → (a .number ≡ 0) ⊎ (a .number ≡ 7) → Formed s
+      by-form (inl f) k = f
+      by-form (inr m) (inl e) = let z = six (m .1) in absurd (omega arith)
+      by-form (inr m) (inr e) = let z = six (m .1) in absurd (omega arith)

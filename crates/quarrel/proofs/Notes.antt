@@ -1,0 +1,222 @@
+-- What is noted on the way is the machine's state, and of a derived tree it is the first `~=` that quarrels. Assumes nothing.
+use Prim.Native.Nat.{ℕ, _≤_, _<_, min}
+use mathlib.Core.Path.{_≡_, refl, sym, ap, _∙_, subst, subst₂}
+use mathlib.Core.Bool.{Bool, true, false, _||_, not}
+use mathlib.Core.List.{List}
+use mathlib.Core.Logic.{_⊎_, inl, inr}
+use mathlib.Core.Option.{Option, none, some}
+use native.Mathlib.Omega.{arith}
+use lib.Dec.{eqb}
+use borrow.Author.Tests.{not-true}
+use Rattle.stream.specs.Kinds.{NotEqual}
+use Rattle.stream.specs.Words.{records}
+use Rattle.stream.specs.Formed.{Formed}
+use Rattle.stream.specs.declared.reader.Note.{Note}
+use Rattle.stream.proofs.Words.{few}
+use Rattle.operators.specs.Ranks.{Ranks}
+use Rattle.tree.specs.Forest.{Forest, tree}
+use Rattle.grammar.specs.Grammar.{Ranked, Chunk}
+use Rattle.grammar.specs.Member.{member}
+use Rattle.grammar.proofs.Forward.{wrong, and-left, and-right}
+use Rattle.grammar.proofs.Same.{to-terms}
+use Rattle.quarrel.specs.Chains.{Op, op, expression, unary, tail}
+use Rattle.quarrel.specs.Rule.{firsts, seconds, Quarrelling, First}
+use Rattle.quarrel.specs.Notes.{NONE, note, hears, fresh, resumed, noted, held}
+use Rattle.quarrel.proofs.Classes.{Role, cut, compare, unequal, bits, sum, rest, role, class, part}
+use Rattle.quarrel.proofs.Words.{cutting, leading, following, differing, cut-words, first-words, second-words, unequal-words}
+use Rattle.quarrel.proofs.Machine.{State, state, start, found, least, least-none, turn, step}
+use Rattle.quarrel.proofs.Noted as M
+use Rattle.quarrel.proofs.Plain.{Parts, Holds, Plain, ends, tailed, signed, atom, holds, nothing, whole, plain}
+use Rattle.quarrel.proofs.Plain as P
+use Rattle.quarrel.proofs.Parts.{apart}
+
+-- the place, or NONE where there is none; and so for a state
+abbrev pub code : Option ℕ → ℕ
+code none = NONE
+code (some i) = i
+
+abbrev pub coded : State → Note
+coded (state b p q) = note b (code p) (code q)
+
+-- every place is below NONE
+abbrev pub Below : Option ℕ → Type 0
+Below none = Unit {0}
+Below (some i) = i < NONE
+
+abbrev pub Low : State → Type 0
+Low (state b p q) = Below p × Below q
+
+code-least : (p q : Option ℕ) → Below p → Below q → min (code p) (code q) ≡ code (least p q)
+code-least none none x y = refl
+code-least none (some i) x y = omega arith
+code-least (some i) none x y = omega arith
+code-least (some i) (some j) x y = refl
+
+below-least : (p q : Option ℕ) → Below p → Below q → Below (least p q)
+below-least none q x y = y
+below-least (some i) none x y = x
+below-least (some i) (some j) x y = omega arith
+
+-- what is heard, by the four tests and by the operator's role
+abbrev told : (cuts differs leads follows : Bool) → Note → ℕ → Note
+told a b c d n p =
+    elim a [
+      | true ↦ note false NONE (n .found)
+      | false ↦ elim b [
+        | true ↦ note (n .heard) p (elim (n .heard) [ true ↦ min (n .found) p | false ↦ n .found ])
+        | false ↦ elim c [
+          | true ↦ note true NONE (elim d [ true ↦ min (n .found) (n .waits) | false ↦ n .found ])
+          | false ↦ elim d [ true ↦ note (n .heard) NONE (min (n .found) (n .waits)) | false ↦ n ]
+        ]
+      ]
+    ]
+
+abbrev heard : Role → Note → ℕ → Note
+heard k n p = told (cutting k) (differing k) (leading k) (following k) n p
+
+alone : (a : Bool) → a ≡ a || false
+alone true = refl
+alone false = refl
+
+hears-role : (n : Note) (k p : ℕ) → hears n k p ≡ heard (role (class k)) n p
+unfolding hears
+hears-role n k p =
+    let r = role (class k) in
+    let e : eqb k NotEqual ≡ differing r = alone (eqb k NotEqual) ∙ unequal-words k in
+    ap (λ x. told x (eqb k NotEqual) (member k firsts) (member k seconds) n p) (cut-words k)
+    ∙ ap (λ x. told (cutting r) x (member k firsts) (member k seconds) n p) e
+    ∙ ap (λ x. told (cutting r) (differing r) x (member k seconds) n p) (first-words k)
+    ∙ ap (λ x. told (cutting r) (differing r) (leading r) x n p) (second-words k)
+
+heard-turn : (k : Role) (i : ℕ) (z : State) → Low z → i < NONE → heard k (coded z) i ≡ coded (turn k i z)
+heard-turn cut i (state b p q) l h = refl
+heard-turn compare i (state b p q) l h = refl
+heard-turn unequal i (state true p q) l h = ap (note true i) (code-least q (some i) (l .1) h)
+heard-turn unequal i (state false p q) l h = ap (λ m. note false i (code m)) (sym (least-none q))
+heard-turn bits i (state b p q) l h = ap (note true NONE) (code-least q p (l .1) (l .0))
+heard-turn sum i (state b p q) l h = ap (note b NONE) (code-least q p (l .1) (l .0))
+heard-turn rest i (state b p q) l h = refl
+
+low-turn : (k : Role) (i : ℕ) (z : State) → Low z → i < NONE → Low (turn k i z)
+low-turn cut i (state b p q) l h = (tt, l .1)
+low-turn compare i (state b p q) l h = (tt, l .1)
+low-turn unequal i (state true p q) l h = (h, below-least q (some i) (l .1) h)
+low-turn unequal i (state false p q) l h = (h, below-least q none (l .1) tt)
+low-turn bits i (state b p q) l h = (tt, below-least q p (l .1) (l .0))
+low-turn sum i (state b p q) l h = (tt, below-least q p (l .1) (l .0))
+low-turn rest i (state b p q) l h = l
+
+-- to hear an operator is one step of the machine
+pub hears-step : (z : State) (o : Op) → Low z → o .place < NONE → hears (coded z) (o .sort) (o .place) ≡ coded (step z o)
+hears-step z o l h = hears-role (coded z) (o .sort) (o .place) ∙ heard-turn (part o) (o .place) z l h
+
+pub low-step : (z : State) (o : Op) → Low z → o .place < NONE → Low (step z o)
+low-step z o l h = low-turn (part o) (o .place) z l h
+
+-- a note that stands for a state
+pub data Codes : Note → State → Type 0 where
+  codes : {n : Note} {z : State} → n ≡ coded z → Low z → Codes n z
+
+is-coded : {n : Note} {z : State} → Codes n z → n ≡ coded z
+is-coded (codes e l) = e
+
+codes-step : {n : Note} {z : State} (o : Op) → o .place < NONE → Codes n z → Codes (hears n (o .sort) (o .place)) (step z o)
+codes-step {z = z} o h (codes e l) = codes (ap (λ n. hears n (o .sort) (o .place)) e ∙ hears-step z o l h) (low-step z o l h)
+
+codes-fresh : {n : Note} {z : State} → Codes n z → Codes (fresh n) (state false none (found z))
+codes-fresh (codes {z = state b p q} e l) = codes {z = state false none q} (ap fresh e) (tt, l .1)
+
+codes-resumed : {n m : Note} {z w : State} → Codes n z → Codes m w → Codes (resumed n m) (M.finding z (found w))
+codes-resumed {m = m} (codes {z = state b p q} e l) (codes {z = state c r o} f k) = codes {z = state b p o} (ap (λ n. resumed n m) e ∙ ap (resumed (coded (state b p q))) f) (l .0, k .1)
+
+finding-found : (z : State) → M.finding z (found z) ≡ z
+finding-found (state b p q) = refl
+
+apart-tags : (tag : ℕ) → apart tag ≡ true → (expression tag ≡ false) × (tail tag ≡ false) × (unary tag ≡ false)
+apart-tags tag h =
+    let a = and-right (not (expression tag)) _ h in
+    (not-true _ (and-left (not (expression tag)) _ h), not-true _ (and-left (not (tail tag)) _ a), not-true _ (and-right (not (tail tag)) _ a))
+
+-- a test that fails
+fails : {A : Type 0} (a : Bool) (x y : A) → a ≡ false → elim a [ true ↦ x | false ↦ y ] ≡ y
+fails true x y h = wrong (sym h)
+fails false x y h = refl
+
+module _ (s : List ℕ) (tag v l p : ℕ) (k r : Forest) (h : apart tag ≡ true) where
+  noted-apart : (n : Note) → noted s (tree tag v l p k r) n ≡ noted s r (noted s k n)
+  noted-apart n = let e = apart-tags tag h in ap (noted s r) (fails (expression tag) _ _ (e .0) ∙ fails (tail tag) _ _ (e .1) ∙ fails (unary tag) _ _ (e .2))
+
+  machine-apart : (z : State) → M.noted s (tree tag v l p k r) z ≡ M.noted s r (M.finding z (M.nested s k (found z)))
+  machine-apart z = let e = apart-tags tag h in fails (tail tag) _ _ (e .1) ∙ fails (unary tag) _ _ (e .2)
+
+  nested-apart : (q : Option ℕ) → M.nested s (tree tag v l p k r) q ≡ M.nested s r (M.nested s k q)
+  nested-apart q = fails (expression tag) _ _ (apart-tags tag h .0)
+
+-- only what is found changes, twice
+finding-on : (z : State) (q : Option ℕ) (f : Option ℕ → Option ℕ) → M.finding (M.finding z q) (f (found (M.finding z q))) ≡ M.finding z (f q)
+finding-on (state b p o) q f = refl
+
+module _ (s : List ℕ) (inside : records s ≤ NONE) where
+  mutual
+    -- through the parts of an expression, what is noted is the machine's state
+    pub codes-parts : {n : Note} {z : State} {t : Forest} → Parts s t → Codes n z → Codes (noted s t n) (M.noted s t z)
+    codes-parts ends c = c
+    codes-parts (tailed {p = p} h k r) c = codes-parts r (codes-held k (codes-step (op s p) (omega arith) c))
+    codes-parts (signed k r) c = codes-parts r (codes-held k c)
+    codes-parts {n = m} {z = z} (atom {tag = tag} {v = v} {n = l} {p = p} {k = k} {r = r} h x y) c =
+        subst₂ Codes (sym (noted-apart s tag v l p k r h m)) (sym (machine-apart s tag v l p k r h z)) (codes-parts y (codes-plain x c))
+
+    pub codes-held : {n : Note} {z : State} {t : Forest} → Holds s t → Codes n z → Codes (held s t n) (M.held s t z)
+    codes-held (holds k) c = codes-parts k c
+
+    -- through trees around expressions only what is found changes
+    pub codes-plain : {n : Note} {z : State} {t : Forest} → Plain s t → Codes n z → Codes (noted s t n) (M.finding z (M.nested s t (found z)))
+    codes-plain {n = m} {z = z} nothing c = subst (Codes m) (sym (finding-found z)) c
+    codes-plain {n = m} {z = z} (whole {v = v} {n = l} {p = p} {k = k} {r = r} x y) c =
+        subst (Codes (noted s (tree 17 v l p k r) m)) (finding-on z (found (M.noted s k (state false none (found z)))) (M.nested s r)) (codes-plain y (codes-resumed c (codes-parts x (codes-fresh c))))
+    codes-plain {n = m} {z = z} (P.part {tag = tag} {v = v} {n = l} {p = p} {k = k} {r = r} h x y) c =
+        subst₂ Codes (sym (noted-apart s tag v l p k r h m)) (finding-on z (M.nested s k (found z)) (M.nested s r) ∙ ap (M.finding z) (sym (nested-apart s tag v l p k r h (found z)))) (codes-plain y (codes-plain x c))
+
+  -- the same as equations
+  pub noted-parts : (z : State) {t : Forest} → Parts s t → Low z → noted s t (coded z) ≡ coded (M.noted s t z)
+  noted-parts z x l = is-coded (codes-parts x (codes {z = z} refl l))
+
+  pub held-parts : (z : State) {t : Forest} → Holds s t → Low z → held s t (coded z) ≡ coded (M.held s t z)
+  held-parts z x l = is-coded (codes-held x (codes {z = z} refl l))
+
+  pub noted-plain : (z : State) {t : Forest} → Plain s t → Low z → noted s t (coded z) ≡ coded (M.finding z (M.nested s t (found z)))
+  noted-plain z x l = is-coded (codes-plain x (codes {z = z} refl l))
+
+-- what is found: nothing, or the first
+data Told (s : List ℕ) (t : Forest) : ℕ → Type 0 where
+  nowhere : ((i : ℕ) → ¬ Quarrelling s t i) → Told s t NONE
+  first : {i : ℕ} → First s t i → i < NONE → Told s t i
+
+found-told : (s : List ℕ) (t : Forest) (q : Option ℕ) → M.nested s t none ≡ q → Below q → Told s t (code q)
+found-told s t none e l = nowhere (M.found-none s t .0 e)
+found-told s t (some i) e l = first (M.found-some s t i .0 e) l
+
+codes-told : (s : List ℕ) (t : Forest) {n : Note} → Codes n (M.finding start (M.nested s t none)) → Told s t (n .found)
+codes-told s t (codes e l) = subst (Told s t) (sym (ap (λ n. n .found) e)) (found-told s t (M.nested s t none) refl (l .1))
+
+told-either : {s : List ℕ} {t : Forest} {f : ℕ} → Told s t f → ((f ≡ NONE) × ((i : ℕ) → ¬ Quarrelling s t i)) ⊎ First s t f
+told-either (nowhere x) = inl (refl, x)
+told-either (first x l) = inr x
+
+told-below : {s : List ℕ} {t : Forest} {f : ℕ} → Told s t f → First s t f → f < NONE
+told-below (nowhere x) y = absurd (x NONE (y .quarrelling))
+told-below (first x l) y = l
+
+chunk-told : (s : List ℕ) → Formed s → (rank : Ranks) (g : ℕ) {t : Forest} → Ranked rank → Chunk s rank g t → Told s t (noted s t (note false NONE NONE) .found)
+chunk-told s w rank g {t} r c =
+    let h : records s ≤ NONE = omega (arith, few s w) in
+    codes-told s t (codes-plain s h (plain s rank (to-terms s rank r c)) (codes {z = start} refl (tt, tt)))
+
+-- of a derived tree: nothing is found and nothing quarrels, or what is found is the first that does, and a place
+pub first-noted : (s : List ℕ) → Formed s → (rank : Ranks) (g : ℕ) {t : Forest} → Ranked rank → Chunk s rank g t
+    → let f = noted s t (note false NONE NONE) .found in ((f ≡ NONE) × ((i : ℕ) → ¬ Quarrelling s t i)) ⊎ First s t f
+first-noted s w rank g r c = told-either (chunk-told s w rank g r c)
+
+pub first-below : (s : List ℕ) → Formed s → (rank : Ranks) (g : ℕ) {t : Forest} → Ranked rank → Chunk s rank g t
+    → let f = noted s t (note false NONE NONE) .found in First s t f → f < NONE
+first-below s w rank g r c x = told-below (chunk-told s w rank g r c) x
