@@ -1,27 +1,22 @@
 -- What the crate reading notes is what the rule finds; the test of an answer's number. Assumes nothing.
-use mathlib.Core.Path.{_≡_, sym, subst, _∙_}
+use mathlib.Core.Path.{_≡_, sym, _∙_}
 use mathlib.Core.List.{List, [], _∷_}
 use mathlib.Core.Bool.{true, false}
-use mathlib.Core.Logic.{_⊎_, inl, inr, by-cases}
+use mathlib.Core.Logic.{inl, inr, by-cases}
 use Prim.Native.Nat.{ℕ}
 use native.Mathlib.Decide.{ℕ-discrete}
 use borrow.Author.Tests.{eq-eqb, ne-eqb}
 use Rattle.stream.specs.Formed.{Formed}
-use Rattle.operators.specs.Ranks.{ranks}
 use Rattle.operators.specs.declared.Ranking.the-variants.{Crate}
 use Rattle.grammar.specs.Member.{member}
 use Rattle.grammar.proofs.Forward.{wrong}
-use Rattle.grammar.proofs.Theorems.{is-ranked}
-use Rattle.quarrel.specs.Rule.{Quarrelling, First}
-use Rattle.quarrel.proofs.Notes.{first-noted}
 use Rattle.parser.specs.Answered.{Noted}
 use Rattle.parser.specs.declared.Answer.{Answer}
 use Rattle.agreed.proofs.Cases.{Took, Left, Finds}
 
 -- of a well-formed stream
 pub finds : (s : List ℕ) (first : ℕ) → Formed s → Noted s Crate first → Finds s first
-finds s first f n t d =
-    subst (λ (z : ℕ). ((z ≡ 18446744073709551615) × ((i : ℕ) → ¬ Quarrelling s t i)) ⊎ First s t z) (sym (n .derived t f d)) (first-noted s f (ranks Crate) 199 (is-ranked Crate) d)
+finds s first f n t d = n .derived t f d
 
 -- a number is 0 or 7, or neither
 pub took-is : (a : Answer) → member (a .number) (0 ∷ 7 ∷ []) ≡ true → Took a

@@ -2,6 +2,7 @@
 use mathlib.Core.Path.{_≡_, refl, sym, ap, _∙_, subst}
 use mathlib.Core.Bool.{false}
 use mathlib.Core.List.{List}
+use mathlib.Core.Logic.{_⊎_}
 use Prim.Native.Nat.{ℕ, _*_, _≤_, _<_}
 use native.Mathlib.Omega.{arith}
 use borrow.Author.Tests.{eq-eqb, ne-eqb}
@@ -25,7 +26,9 @@ use Rattle.grammar.specs.Productions.{block, retstat, explist}
 use Rattle.grammar.specs.Levels.{readers, finish, chunk}
 use Rattle.grammar.proofs.Complete.{yes-case, no-case}
 use Rattle.grammar.proofs.Theorems.{sound, complete, unique, is-ranked}
+use Rattle.quarrel.specs.Rule.{Quarrelling, First}
 use Rattle.quarrel.specs.Notes.{NONE, note, noted}
+use Rattle.quarrel.proofs.Notes.{first-noted}
 use Rattle.parser.specs.Contract.{Fine, Meets, says}
 use Rattle.parser.specs.declared.Step.{Step}
 use Rattle.parser.specs.declared.Step.the-variants as Step·
@@ -136,7 +139,9 @@ module _ (s : List ℕ) (k : Ranking) where
   pub noted-read : (c : Cursor) {t : Forest} {first : ℕ} → Formed s → chunk s (ranks k) 199 ≡ fine (c .place) (c .mark) t 0 → c .note ≡ noted s t (note false NONE NONE) → first ≡ c .note .found → Noted s k first
   noted-read c {t = t} f x q e =
       record {
-        derived = λ u g d. e ∙ ap (λ (z : Note). z .found) q ∙ ap (λ (z : Forest). noted s z (note false NONE NONE) .found) (its-own x d);
+        derived = λ u g d. subst (λ (z : ℕ). ((z ≡ NONE) × ((i : ℕ) → ¬ Quarrelling s u i)) ⊎ First s u z)
+            (sym (e ∙ ap (λ (z : Note). z .found) q ∙ ap (λ (z : Forest). noted s z (note false NONE NONE) .found) (its-own x d)))
+            (first-noted s f (ranks k) 199 (is-ranked k) d);
         underived = λ n. absurd (n t (sound s (ranks k) 199 (is-ranked k) x));
         unformed = λ p b. absurd (formed-not-malformed f b);
       }

@@ -1,8 +1,8 @@
 -- What a reading promises of its five numbers and of every word of the node array, for any words. Assumes nothing: these are definitions.
 use mathlib.Core.Path.{_≡_}
 use Prim.Native.Nat.{ℕ, _*_, _≤_, _<_}
-use mathlib.Core.Bool.{false}
 use mathlib.Core.List.{List, _++_}
+use mathlib.Core.Logic.{_⊎_}
 use lib.ListN.{length, drop, replicate}
 use Rattle.stream.specs.Formed.{Formed, Malformed}
 use Rattle.stream.specs.declared.reader.Refusal.{Refusal}
@@ -12,7 +12,8 @@ use Rattle.tree.specs.Forest.{Forest, size, flat}
 use Rattle.grammar.specs.Grammar.{Chunk}
 use Rattle.grammar.specs.Reading.{fail}
 use Rattle.grammar.specs.Levels.{chunk}
-use Rattle.quarrel.specs.Notes.{NONE, note, noted}
+use Rattle.quarrel.specs.Rule.{Quarrelling, First}
+use Rattle.quarrel.specs.Notes.{NONE}
 use Rattle.parser.specs.declared.Answer.{Answer}
 
 -- 01's numbers of a refusal, and of what is told by a count of words alone
@@ -34,8 +35,8 @@ pub record Answered (s : List ℕ) (r : Ranking) (n n′ : List ℕ) (a : Answer
   pub short : (t : Forest) → Formed s → Chunk s (ranks r) 199 t → length n < size t * 4 → (a ≡ counting 7 (size t * 4)) × Zeroed n n′
   pub refuses : (e : Refusal) → Formed s → ((t : Forest) → Chunk s (ranks r) 199 t → ⊥) → chunk s (ranks r) 199 ≡ fail e → (a ≡ refusing e) × Zeroed n n′
 
--- the first token that quarrels, as it is noted over the tree that is derived; none, where none is derived or the stream is malformed
+-- the first token that quarrels in the tree that is derived, or that none does; none, too, where none is derived or the stream is malformed
 pub record Noted (s : List ℕ) (r : Ranking) (first : ℕ) : Type 0 where
-  pub derived : (t : Forest) → Formed s → Chunk s (ranks r) 199 t → first ≡ noted s t (note false NONE NONE) .found
+  pub derived : (t : Forest) → Formed s → Chunk s (ranks r) 199 t → ((first ≡ NONE) × ((i : ℕ) → ¬ Quarrelling s t i)) ⊎ First s t first
   pub underived : ((t : Forest) → Chunk s (ranks r) 199 t → ⊥) → first ≡ NONE
   pub unformed : (p : ℕ) → Malformed s p → first ≡ NONE

@@ -6,7 +6,7 @@ use mathlib.Core.List.{List, [], _∷_}
 use mathlib.Core.Bool.{Bool, true, false}
 use lib.Dec.{eqb}
 use lib.Seq.{sets}
-use Rattle.stream.specs.Words.{records, kind, payload, line}
+use Rattle.stream.specs.Words.{records}
 use Rattle.stream.specs.Formed.{Formed}
 use Rattle.stream.specs.declared.reader.Cursor.{Cursor}
 use Rattle.stream.specs.declared.reader.Note.{Note}
@@ -74,8 +74,7 @@ Meeting w s q low used more n n′ o (Done c u) = Fined w s q low used more n n�
 Meeting w s q low used more n n′ o (Fail e) = o ≡ fail e
 
 abbrev pub Meets : List ℕ → Note → (low used more : ℕ) → List ℕ → List ℕ → Out → Step → Type 0
-Meets s q low used more n n′ o (Done c u) = Fine s q low used more n n′ o c u 0
-Meets s q low used more n n′ o (Fail e) = o ≡ fail e
+Meets s = Meeting (noted s) s
 
 abbrev pub Sums : List ℕ → Note → (start low used more : ℕ) → List ℕ → List ℕ → Out → Sum → Type 0
 Sums s q start low used more n n′ o (Sum·.Done c u v) = Fine s q low used more n n′ o c u v × (v + 2 * start ≤ 2 * c .place)

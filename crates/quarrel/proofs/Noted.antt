@@ -137,10 +137,6 @@ nested-lowest s t = rw (nested-is s t Option.none)
     (least-alike {P = Among (chains s t)} (λ i x. record { chain = x .chain; its = x .its; one = x .placed .one; quarrels = x .placed .quarrels; there = x .placed .there })
     (λ i x. record { chain = x .chain; its = x .its; placed = record { one = x .one; quarrels = x .quarrels; there = x .there } }) (lows-lowest (chains s t)))
 
--- started with something found: the lower of that and what is found from nothing
-pub nested-found : (s : List ℕ) (t : Forest) (q : Option ℕ) → nested s t q ≡ least q (nested s t Option.none)
-nested-found s t q = nested-is s t q ∙ ap (least q) (sym (nested-is s t Option.none))
-
 -- nothing is found exactly if nothing quarrels, and i exactly if it is the first that does
 pub found-none : (s : List ℕ) (t : Forest) → (nested s t Option.none ≡ Option.none) ↔ ((i : ℕ) → ¬ Quarrelling s t i)
 found-none s t = exactly-none (nested-lowest s t)

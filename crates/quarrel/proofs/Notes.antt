@@ -117,9 +117,6 @@ low-step z o l h = low-turn (part o) (o .place) z l h
 pub data Codes : Note → State → Type 0 where
   codes : {n : Note} {z : State} → n ≡ coded z → Low z → Codes n z
 
-is-coded : {n : Note} {z : State} → Codes n z → n ≡ coded z
-is-coded (codes e l) = e
-
 codes-step : {n : Note} {z : State} (o : Op) → o .place < NONE → Codes n z → Codes (hears n (o .sort) (o .place)) (step z o)
 codes-step {z = z} o h (codes e l) = codes (ap (λ n. hears n (o .sort) (o .place)) e ∙ hears-step z o l h) (low-step z o l h)
 
@@ -177,46 +174,20 @@ module _ (s : List ℕ) (inside : records s ≤ NONE) where
     codes-plain {n = m} {z = z} (P.part {tag = tag} {v = v} {n = l} {p = p} {k = k} {r = r} h x y) c =
         subst₂ Codes (sym (noted-apart s tag v l p k r h m)) (finding-on z (M.nested s k (found z)) (M.nested s r) ∙ ap (M.finding z) (sym (nested-apart s tag v l p k r h (found z)))) (codes-plain y (codes-plain x c))
 
-  -- the same as equations
-  pub noted-parts : (z : State) {t : Forest} → Parts s t → Low z → noted s t (coded z) ≡ coded (M.noted s t z)
-  noted-parts z x l = is-coded (codes-parts x (codes {z = z} refl l))
-
-  pub held-parts : (z : State) {t : Forest} → Holds s t → Low z → held s t (coded z) ≡ coded (M.held s t z)
-  held-parts z x l = is-coded (codes-held x (codes {z = z} refl l))
-
-  pub noted-plain : (z : State) {t : Forest} → Plain s t → Low z → noted s t (coded z) ≡ coded (M.finding z (M.nested s t (found z)))
-  noted-plain z x l = is-coded (codes-plain x (codes {z = z} refl l))
-
 -- what is found: nothing, or the first
-data Told (s : List ℕ) (t : Forest) : ℕ → Type 0 where
-  nowhere : ((i : ℕ) → ¬ Quarrelling s t i) → Told s t NONE
-  first : {i : ℕ} → First s t i → i < NONE → Told s t i
+abbrev Told : List ℕ → Forest → ℕ → Type 0
+Told s t f = ((f ≡ NONE) × ((i : ℕ) → ¬ Quarrelling s t i)) ⊎ First s t f
 
-found-told : (s : List ℕ) (t : Forest) (q : Option ℕ) → M.nested s t none ≡ q → Below q → Told s t (code q)
-found-told s t none e l = nowhere (M.found-none s t .0 e)
-found-told s t (some i) e l = first (M.found-some s t i .0 e) l
+found-told : (s : List ℕ) (t : Forest) (q : Option ℕ) → M.nested s t none ≡ q → Told s t (code q)
+found-told s t none e = inl (refl, M.found-none s t .0 e)
+found-told s t (some i) e = inr (M.found-some s t i .0 e)
 
 codes-told : (s : List ℕ) (t : Forest) {n : Note} → Codes n (M.finding start (M.nested s t none)) → Told s t (n .found)
-codes-told s t (codes e l) = subst (Told s t) (sym (ap (λ n. n .found) e)) (found-told s t (M.nested s t none) refl (l .1))
+codes-told s t (codes e l) = subst (Told s t) (sym (ap (λ n. n .found) e)) (found-told s t (M.nested s t none) refl)
 
-told-either : {s : List ℕ} {t : Forest} {f : ℕ} → Told s t f → ((f ≡ NONE) × ((i : ℕ) → ¬ Quarrelling s t i)) ⊎ First s t f
-told-either (nowhere x) = inl (refl, x)
-told-either (first x l) = inr x
-
-told-below : {s : List ℕ} {t : Forest} {f : ℕ} → Told s t f → First s t f → f < NONE
-told-below (nowhere x) y = absurd (x NONE (y .quarrelling))
-told-below (first x l) y = l
-
-chunk-told : (s : List ℕ) → Formed s → (rank : Ranks) (g : ℕ) {t : Forest} → Ranked rank → Chunk s rank g t → Told s t (noted s t (note false NONE NONE) .found)
-chunk-told s w rank g {t} r c =
-    let h : records s ≤ NONE = omega (arith, few s w) in
-    codes-told s t (codes-plain s h (plain s rank (to-terms s rank r c)) (codes {z = start} refl (tt, tt)))
-
--- of a derived tree: nothing is found and nothing quarrels, or what is found is the first that does, and a place
+-- of a derived tree: nothing is found and nothing quarrels, or what is found is the first that does
 pub first-noted : (s : List ℕ) → Formed s → (rank : Ranks) (g : ℕ) {t : Forest} → Ranked rank → Chunk s rank g t
     → let f = noted s t (note false NONE NONE) .found in ((f ≡ NONE) × ((i : ℕ) → ¬ Quarrelling s t i)) ⊎ First s t f
-first-noted s w rank g r c = told-either (chunk-told s w rank g r c)
-
-pub first-below : (s : List ℕ) → Formed s → (rank : Ranks) (g : ℕ) {t : Forest} → Ranked rank → Chunk s rank g t
-    → let f = noted s t (note false NONE NONE) .found in First s t f → f < NONE
-first-below s w rank g r c x = told-below (chunk-told s w rank g r c) x
+first-noted s w rank g {t} r c =
+    let h : records s ≤ NONE = omega (arith, few s w) in
+    codes-told s t (codes-plain s h (plain s rank (to-terms s rank r c)) (codes {z = start} refl (tt, tt)))
