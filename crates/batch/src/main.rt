@@ -1,16 +1,16 @@
 // Reads streams of records, one after another, and prints what each reading answers: for tests.
 //
 // A line of standard input is a record in the form of 01's program, and a stream ends with its record of kind 3b. For each stream come
-// the crate reading and the manual reading: the tree, a record a line, where there is one, and the five numbers of the answer.
+// the crate, the manual and the agreed reading: the tree, a record a line, where there is one, and the five numbers of the answer.
 use libc::STDOUT_FILENO;
+use lines::LINE;
+use lines::Lines;
 use parser::Answer;
 ghost use Prim.Native.Nat.{_+_, _*_, _≤_};
 ghost use mathlib.Core.Path.{_≡_};
 ghost use lib.ListN.{length};
 
-// A record's line, with its newline; the bytes that are read at a time, whole lines; the words of 2,048 tree records.
-const LINE: usize = 38;
-
+// The bytes that are read at a time, whole lines; the words of 2,048 tree records.
 const BLOCK: usize = 62320;
 
 const NODES: usize = 8192;
@@ -20,67 +20,20 @@ const END: u64 = 59;
 // far more than there are blocks in any run
 const BLOCKS: u64 = 1000000000;
 
-fn wide(b: u8) -> u64
-    ensures { λ r. ⌜ r ≤ 255 ⌝ }
-{
-    b as u64
-}
-
-// The value of a hexadecimal digit, and 0 for what is none.
-fn digit(b: u8) -> u64 {
-    if b >= b'0' {
-        if b <= b'9' {
-            return wide(b - b'0');
-        }
-    }
-    if b >= b'a' {
-        if b <= b'f' {
-            return wide(b - b'a') + 10;
-        }
-    }
-    0
-}
-
-// The number that so many digits write.
-fn number(text: &[u8], from: usize, digits: usize) -> u64
-    requires { ⌜ from + digits ≤ length (now text) ⌝ }
-{
-    let mut v: u64 = 0;
-    let mut i = 0;
-    while i < digits {
-        v = (v << 4) | digit(text[from + i]);
-        i += 1;
-    }
-    v
-}
-
-// The last so many digits of a number, at a place of a line.
-fn put_hex(line: &mut [u8], at: usize, digits: usize, n: u64)
-    requires { ⌜ at + digits ≤ length (now line) ⌝ }
-{
-    let glyphs = *b"0123456789abcdef";
-    let mut rest = n;
-    let mut i = digits;
-    while i > 0 {
-        i -= 1;
-        let d = (rest % 16) as usize;
-        line[at + i] = glyphs[d];
-        rest = rest / 16;
-    }
-}
-
 // One record, in the form in which records are read.
 fn print_record(nodes: &[u64; 8192], at: usize)
     requires { ⌜ at + 4 ≤ 8192 ⌝ }
 {
-    let mut space = [b' '; 38];
-    space[37] = b'\n';
-    let line: &mut [u8] = &mut space;
-    put_hex(line, 0, 2, nodes[at]);
-    put_hex(line, 3, 16, nodes[at + 1]);
-    put_hex(line, 20, 8, nodes[at + 2]);
-    put_hex(line, 29, 8, nodes[at + 3]);
-    io::write_all(STDOUT_FILENO, line);
+    let mut line = [0u8; 38];
+    lines::write_line(
+        &mut line,
+        0,
+        nodes[at],
+        nodes[at + 1],
+        nodes[at + 2],
+        nodes[at + 3],
+    );
+    io::write_all(STDOUT_FILENO, &line);
 }
 
 fn print_tree(nodes: &[u64; 8192], count: usize) {
@@ -95,15 +48,16 @@ fn print_tree(nodes: &[u64; 8192], count: usize) {
 }
 
 fn print_answer(a: Answer) {
-    let mut space = [b' '; 45];
-    space[44] = b'\n';
-    let line: &mut [u8] = &mut space;
-    put_hex(line, 0, 8, a.number);
-    put_hex(line, 9, 8, a.line);
-    put_hex(line, 18, 8, a.found as u64);
-    put_hex(line, 27, 8, a.expected);
-    put_hex(line, 36, 8, a.count as u64);
-    io::write_all(STDOUT_FILENO, line);
+    let mut line = [0u8; 45];
+    lines::write_answer(
+        &mut line,
+        a.number,
+        a.line,
+        a.found as u64,
+        a.expected,
+        a.count as u64,
+    );
+    io::write_all(STDOUT_FILENO, &line);
 }
 
 // The pattern that the node array holds before a reading.
@@ -164,6 +118,14 @@ fn readings(stream: &[u64], nodes: &mut [u64; 8192]) {
     fill(nodes);
     let b = parser::manual_reading(stream, nodes);
     tell(nodes, b);
+    fill(nodes);
+    let c = agreed::agreed_reading(stream, nodes);
+    tell(nodes, c);
+}
+
+// Loudly, of a line that is no record's.
+fn other_form() {
+    io::write_all(STDOUT_FILENO, b"A LINE HAS ANOTHER FORM\n");
 }
 
 // One line, after so many records of its stream; how many there are then. At the end of a stream its readings are told.
@@ -177,7 +139,13 @@ fn take_line(
     requires { ⌜ (length (now stream) ≡ 4100) × (records ≤ 1025) × (at + 38 ≤ length (now text)) ⌝ }
     ensures { λ r. ⌜ r ≤ 1025 ⌝ }
 {
-    let kind = number(text, at, 2);
+    let mut record = [0u64; 4];
+    let end = at + LINE;
+    let Lines::Records(_) = lines::read_lines(&text[at..end], &mut record, 1) else {
+        other_form();
+        return records;
+    };
+    let kind = record[0];
     if records == 1025 {
         if kind != END {
             return records;
@@ -185,10 +153,7 @@ fn take_line(
         io::write_all(STDOUT_FILENO, b"A STREAM HAS MORE THAN 1024 TOKENS\n");
         return 0;
     }
-    let payload = number(text, at + 3, 16);
-    let line = number(text, at + 20, 8);
-    let after = number(text, at + 29, 8);
-    tree::put(stream, records, kind, payload, line, after);
+    tree::put(stream, records, kind, record[1], record[2], record[3]);
     let more = records + 1;
     if kind != END {
         return more;
@@ -216,6 +181,9 @@ fn take_lines(
         r = take_line(stream, nodes, r, text, at);
         at += LINE;
         left -= LINE;
+    }
+    if left != 0 {
+        other_form();
     }
     r
 }

@@ -561,20 +561,20 @@ fn stat(
             let kind = t.kind;
             let line = t.line;
             match kind {
-                IF => cond(stream, nodes, ranking, d, used, g - 1, line),
+                IF => ifs(stream, nodes, ranking, d, used, g - 1, line),
                 WHILE => whiles(stream, nodes, ranking, d, used, g - 1, line),
                 DO => dos(stream, nodes, ranking, d, used, g - 1, line),
                 FOR => fors(stream, nodes, ranking, d, used, g - 1, line),
-                REPEAT => repeats(stream, nodes, ranking, d, used, g - 1, line),
-                FUNCTION => func(stream, nodes, ranking, d, used, g - 1, line),
+                REPEAT => rep(stream, nodes, ranking, d, used, g - 1, line),
+                FUNCTION => fun(stream, nodes, ranking, d, used, g - 1, line),
                 LOCAL => {
                     let next = stream::reader::check_ahead(stream, d, 1, FUNCTION);
                     let found = next.found;
                     let e = next.cursor;
                     if found {
-                        lfunc(stream, nodes, ranking, e, used, g - 1, line)
+                        lfun(stream, nodes, ranking, e, used, g - 1, line)
                     } else {
-                        locs(stream, nodes, ranking, e, used, g - 1, line)
+                        loc(stream, nodes, ranking, e, used, g - 1, line)
                     }
                 }
                 DOUBLE_COLON => label(stream, nodes, d, used, line),
@@ -625,7 +625,7 @@ fn ret(
 }
 
 // parse_if_statement: if exp then block {elseif exp then block} [else block] end; an else weighs 1
-fn cond(
+fn ifs(
     stream: &[u64],
     nodes: &mut [u64],
     ranking: Ranking,
@@ -659,7 +659,7 @@ fn cond(
                 }
                 match stream::reader::take_next(stream, h) {
                     Next::Fail(e) => Step::Fail(e),
-                    Next::Took(_, i) => match ended(stream, nodes, ranking, i, v, g) {
+                    Next::Took(_, i) => match end(stream, nodes, ranking, i, v, g) {
                         Step::Fail(e) => Step::Fail(e),
                         Step::Done(j, w) => close(nodes, used, 3, n + 1, line, j, w),
                     },
@@ -732,7 +732,7 @@ fn arms(
 }
 
 // block end
-fn ended(
+fn end(
     stream: &[u64],
     nodes: &mut [u64],
     ranking: Ranking,
@@ -763,7 +763,7 @@ fn body(
 {
     match expect(stream, c, used, DO) {
         Step::Fail(e) => Step::Fail(e),
-        Step::Done(d, u) => ended(stream, nodes, ranking, d, u, g),
+        Step::Done(d, u) => end(stream, nodes, ranking, d, u, g),
     }
 }
 
@@ -814,7 +814,7 @@ fn dos(
             return Step::Fail(e);
         }
     };
-    match ended(stream, nodes, ranking, d, used + 1, g) {
+    match end(stream, nodes, ranking, d, used + 1, g) {
         Step::Fail(e) => Step::Fail(e),
         Step::Done(e, u) => close(nodes, used, 5, 0, line, e, u),
     }
@@ -846,9 +846,9 @@ fn fors(
             Next::Took(t, f) => {
                 let kind = t.kind;
                 match kind {
-                    ASSIGN => numeric(stream, nodes, ranking, f, used, g, line, n.payload),
-                    COMMA => generic(stream, nodes, ranking, f, used, g, line, n.payload),
-                    IN => generic(stream, nodes, ranking, f, used, g, line, n.payload),
+                    ASSIGN => num(stream, nodes, ranking, f, used, g, line, n.payload),
+                    COMMA => each(stream, nodes, ranking, f, used, g, line, n.payload),
+                    IN => each(stream, nodes, ranking, f, used, g, line, n.payload),
                     _ => Step::Fail(refuse(t.line, f.place, 64)),
                 }
             }
@@ -857,7 +857,7 @@ fn fors(
 }
 
 // '=' exp ',' exp [',' exp] do block end
-fn numeric(
+fn num(
     stream: &[u64],
     nodes: &mut [u64],
     ranking: Ranking,
@@ -921,7 +921,7 @@ fn upto(
 }
 
 // {',' Name} in explist do block end, after the first name
-fn generic(
+fn each(
     stream: &[u64],
     nodes: &mut [u64],
     ranking: Ranking,
@@ -951,7 +951,7 @@ fn generic(
 }
 
 // parse_repeat_statement: repeat block until exp
-fn repeats(
+fn rep(
     stream: &[u64],
     nodes: &mut [u64],
     ranking: Ranking,
@@ -982,7 +982,7 @@ fn repeats(
 }
 
 // parse_function_statement: function funcname funcbody
-fn func(
+fn fun(
     stream: &[u64],
     nodes: &mut [u64],
     ranking: Ranking,
@@ -1013,7 +1013,7 @@ fn func(
 }
 
 // parse_local_function_statement: local function Name funcbody
-fn lfunc(
+fn lfun(
     stream: &[u64],
     nodes: &mut [u64],
     ranking: Ranking,
@@ -1047,7 +1047,7 @@ fn lfunc(
 }
 
 // parse_local_statement: local attnamelist ['=' explist]
-fn locs(
+fn loc(
     stream: &[u64],
     nodes: &mut [u64],
     ranking: Ranking,
@@ -1133,7 +1133,7 @@ fn estat(
     requires { ⌜ Ready (now stream) c used 1 × (line ≡ lineAt (now stream) (c .place)) ⌝ }
     ensures { λ r. ⌜ Meets (now (stream .entry)) (c .note) (c .place + 1) used 0 (now (nodes .entry)) (now (nodes .exit)) (says (now (stream .entry)) ranking g exprstat c) r ⌝ }
 {
-    match suffixed(stream, nodes, ranking, c, used + 1, g) {
+    match pexp(stream, nodes, ranking, c, used + 1, g) {
         Sum::Fail(e) => Step::Fail(e),
         Sum::Done(d, u, last) => match stream::reader::look_ahead(stream, d, 0) {
             Look::End(e) => {
@@ -1149,7 +1149,7 @@ fn estat(
                 if !is_target(last) {
                     return Step::Fail(misfit(3, t.line));
                 }
-                match assign(stream, nodes, ranking, e, u, g, t.line) {
+                match set(stream, nodes, ranking, e, u, g, t.line) {
                     Sum::Fail(e) => Step::Fail(e),
                     Sum::Done(f, v, n) => close(nodes, used, 16, n + 1, line, f, v),
                 }
@@ -1179,7 +1179,7 @@ fn calling(
 }
 
 // {',' var} '=' explist, after the first target; the number is how many targets follow it
-fn assign(
+fn set(
     stream: &[u64],
     nodes: &mut [u64],
     ranking: Ranking,
@@ -1232,7 +1232,7 @@ fn targs(
                 return Sum::Fail(e);
             }
         };
-        match suffixed(stream, nodes, ranking, e, u, g) {
+        match pexp(stream, nodes, ranking, e, u, g) {
             Sum::Fail(e) => {
                 return Sum::Fail(e);
             }
@@ -1364,7 +1364,7 @@ fn head(
     match stream::reader::get_next(stream, c) {
         Next::Fail(e) => Step::Fail(e),
         Next::Took(t, d) => match operators::get_unary_operator(t.kind) {
-            Operator::Nothing => simple(stream, nodes, ranking, d, used, g),
+            Operator::Nothing => simp(stream, nodes, ranking, d, used, g),
             Operator::Found(op) => match stream::reader::take_next(stream, d) {
                 Next::Fail(e) => Step::Fail(e),
                 Next::Took(_, e) => match sub(
@@ -1457,7 +1457,7 @@ fn tail(
 }
 
 // parse_simple_expression
-fn simple(
+fn simp(
     stream: &[u64],
     nodes: &mut [u64],
     ranking: Ranking,
@@ -1480,12 +1480,12 @@ fn simple(
                 TRUE => leaf(stream, nodes, d, used, 24),
                 FALSE => leaf(stream, nodes, d, used, 25),
                 DOTS => leaf(stream, nodes, d, used, 26),
-                LEFT_BRACE => table(stream, nodes, ranking, d, used, g),
+                LEFT_BRACE => tab(stream, nodes, ranking, d, used, g),
                 FUNCTION => match stream::reader::take_next(stream, d) {
                     Next::Fail(e) => Step::Fail(e),
                     Next::Took(_, e) => def(stream, nodes, ranking, e, used, g),
                 },
-                _ => match suffixed(stream, nodes, ranking, d, used, g) {
+                _ => match pexp(stream, nodes, ranking, d, used, g) {
                     Sum::Fail(e) => Step::Fail(e),
                     Sum::Done(e, u, _) => Step::Done(e, u),
                 },
@@ -1497,7 +1497,7 @@ fn simple(
 // ---- suffixes, primaries, arguments; the number is the tag of the last record among the parts
 
 // parse_suffixed_expression: primary {suffix}
-fn suffixed(
+fn pexp(
     stream: &[u64],
     nodes: &mut [u64],
     ranking: Ranking,
@@ -1511,7 +1511,7 @@ fn suffixed(
     let mut n: u64 = 0;
     let mut u = used;
     let mut last: u64 = 0;
-    let mut at = match primary(stream, nodes, ranking, c, used + 1, g) {
+    let mut at = match prim(stream, nodes, ranking, c, used + 1, g) {
         Sum::Fail(e) => {
             return Sum::Fail(e);
         }
@@ -1527,7 +1527,7 @@ fn suffixed(
                 tree::put(nodes, used, 29, n, 0, (u - used) as u64);
                 return Sum::Done(d, u, last);
             }
-            Look::Seen(t, d) => match suffix(stream, nodes, ranking, d, u, g, t.kind) {
+            Look::Seen(t, d) => match suf(stream, nodes, ranking, d, u, g, t.kind) {
                 Part::Done(e, v, tag) => {
                     at = e;
                     u = v;
@@ -1563,7 +1563,7 @@ fn tagged(s: Step, tag: u64) -> Part
 }
 
 // parse_suffix_part, if a token of this kind begins one
-fn suffix(
+fn suf(
     stream: &[u64],
     nodes: &mut [u64],
     ranking: Ranking,
@@ -1577,8 +1577,8 @@ fn suffix(
 {
     match kind {
         DOT => tagged(field_name(stream, nodes, c, used), 32),
-        LEFT_BRACKET => tagged(index(stream, nodes, ranking, c, used, g), 33),
-        COLON => tagged(method(stream, nodes, ranking, c, used, g), 35),
+        LEFT_BRACKET => tagged(idx(stream, nodes, ranking, c, used, g), 33),
+        COLON => tagged(meth(stream, nodes, ranking, c, used, g), 35),
         LEFT_PAREN => tagged(call(stream, nodes, ranking, c, used, g), 34),
         LEFT_BRACE => tagged(call(stream, nodes, ranking, c, used, g), 34),
         STRING => tagged(call(stream, nodes, ranking, c, used, g), 34),
@@ -1604,7 +1604,7 @@ fn field_name(stream: &[u64], nodes: &mut [u64], c: Cursor, used: usize) -> Step
 }
 
 // parse_field_suffix: '[' exp ']'
-fn index(
+fn idx(
     stream: &[u64],
     nodes: &mut [u64],
     ranking: Ranking,
@@ -1631,7 +1631,7 @@ fn index(
 }
 
 // parse_call_suffix: ':' Name args
-fn method(
+fn meth(
     stream: &[u64],
     nodes: &mut [u64],
     ranking: Ranking,
@@ -1693,7 +1693,7 @@ fn args(
             let kind = t.kind;
             match kind {
                 LEFT_PAREN => list(stream, nodes, ranking, d, used, g),
-                LEFT_BRACE => match table(stream, nodes, ranking, d, used + 1, g) {
+                LEFT_BRACE => match tab(stream, nodes, ranking, d, used + 1, g) {
                     Step::Fail(e) => Sum::Fail(e),
                     Step::Done(e, u) => {
                         tree::put(nodes, used, 17, 0, 0, (u - used) as u64);
@@ -1746,7 +1746,7 @@ fn list(
 }
 
 // parse_primary_expression: '(' exp ')' | Name
-fn primary(
+fn prim(
     stream: &[u64],
     nodes: &mut [u64],
     ranking: Ranking,
@@ -1807,7 +1807,7 @@ fn def(
         Sum::Fail(e) => Step::Fail(e),
         Sum::Done(e, u, n) => match expect(stream, e, u, RIGHT_PAREN) {
             Step::Fail(e) => Step::Fail(e),
-            Step::Done(f, v) => match ended(stream, nodes, ranking, f, v, g) {
+            Step::Done(f, v) => match end(stream, nodes, ranking, f, v, g) {
                 Step::Fail(e) => Step::Fail(e),
                 Step::Done(h, w) => close(nodes, used, 28, n, 0, h, w),
             },
@@ -1816,7 +1816,7 @@ fn def(
 }
 
 // parse_table_constructor: '{' [fieldlist] '}'
-fn table(
+fn tab(
     stream: &[u64],
     nodes: &mut [u64],
     ranking: Ranking,
@@ -1833,14 +1833,14 @@ fn table(
             return Step::Fail(e);
         }
     };
-    match fields(stream, nodes, ranking, d, used + 1, g) {
+    match flds(stream, nodes, ranking, d, used + 1, g) {
         Sum::Fail(e) => Step::Fail(e),
         Sum::Done(e, u, n) => close(nodes, used, 27, n, 0, e, u),
     }
 }
 
 // [fieldlist] '}'
-fn fields(
+fn flds(
     stream: &[u64],
     nodes: &mut [u64],
     ranking: Ranking,
@@ -1861,7 +1861,7 @@ fn fields(
         if found {
             return counted(stream, d, u, n, RIGHT_BRACE);
         }
-        let e = match field(stream, nodes, ranking, d, u, g) {
+        let e = match fld(stream, nodes, ranking, d, u, g) {
             Step::Fail(e) => {
                 return Sum::Fail(e);
             }
@@ -1895,7 +1895,7 @@ fn fields(
 }
 
 // parse_constructor_field: '[' exp ']' '=' exp | Name '=' exp | exp
-fn field(
+fn fld(
     stream: &[u64],
     nodes: &mut [u64],
     ranking: Ranking,
@@ -1921,7 +1921,7 @@ fn field(
                         item(stream, nodes, ranking, e, used, g)
                     }
                 }
-                LEFT_BRACKET => keyed(stream, nodes, ranking, d, used, g),
+                LEFT_BRACKET => key(stream, nodes, ranking, d, used, g),
                 _ => item(stream, nodes, ranking, d, used, g),
             }
         }
@@ -1971,7 +1971,7 @@ fn named(
 }
 
 // '[' exp ']' '=' exp
-fn keyed(
+fn key(
     stream: &[u64],
     nodes: &mut [u64],
     ranking: Ranking,

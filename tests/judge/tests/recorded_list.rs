@@ -4,6 +4,7 @@ use std::fs;
 
 use array_reader::kind::STREAM_END;
 use judge::{
+    marked::{self, Told},
     program_form,
     reading::Reading,
     record::form::{self, fits},
@@ -30,11 +31,11 @@ fn streams() -> Vec<Vec<u64>> {
     streams
 }
 
-fn answers(readings: &[Reading]) -> String {
+fn answers() -> String {
     let mut text = String::new();
     for stream in streams() {
-        for reading in readings {
-            let (answer, tree) = form::read(*reading, &stream);
+        for reading in Reading::ALL {
+            let (answer, tree) = form::read(reading, &stream);
             text += &form::lines(&answer, &tree);
         }
     }
@@ -48,10 +49,48 @@ fn every_stream_is_of_the_form() {
 
 #[test]
 fn all_answers_are_as_recorded() {
-    assert!(answers(&Reading::ALL) == text("answers.txt"));
+    assert!(answers() == text("answers.txt"));
 }
 
+/// With the numbers, and the trees, that the scope document gives, read from the recorded text.
 #[test]
-fn answers_of_crate_and_manual_are_as_recorded() {
-    assert!(answers(&[Reading::Crate, Reading::Manual]) == text("answers-two.txt"));
+fn the_marked_scripts_come_first() {
+    let (streams, answers) = (streams(), text("answers.txt"));
+    let mut lines = answers.lines();
+    for (index, script) in marked::scripts().iter().enumerate() {
+        assert_eq!(streams[index], script.stream, "{}", script.name);
+        for reading in Reading::ALL {
+            let name = (&script.name, reading);
+            let mut tree = Vec::new();
+            // A record has four words, an answer five.
+            let answer = loop {
+                let words = program_form::parse_line(lines.next().expect("an answer"));
+                if words.len() == 5 {
+                    break words;
+                }
+                tree.extend(words);
+            };
+            let told = Told {
+                number: answer[0],
+                line: answer[1],
+                found: answer[2],
+                expected: answer[3],
+            };
+            assert_eq!(told, script.told(reading), "{name:?}");
+            assert_eq!(answer[4], tree.len() as u64, "{name:?}");
+            if let Some(whole) = script.tree {
+                assert_eq!(program_form::records(&tree), whole, "{name:?}");
+            }
+        }
+    }
+}
+
+/// The gate runs `batch` on the list.
+#[test]
+fn batch_is_run_on_the_list() {
+    let of_batch = |name: &str| {
+        fs::read_to_string(format!("../../crates/batch/{name}")).expect("a file of batch")
+    };
+    assert!(of_batch("stdin") == text("streams.txt"));
+    assert!(of_batch("stdout") == text("answers.txt"));
 }

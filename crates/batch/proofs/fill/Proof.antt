@@ -13,35 +13,35 @@ Inv-loop nodes₀ i₀ nodes i = i ≤ 8192
 abbrev μ-loop : tie.MeasureT-loop
 μ-loop nodes₀ i₀ nodes i = 8192 - i
 
--- src/main.rt:111:5
+-- src/main.rt:70:5
 loop-holds : tie.Need-loop-holds Inv-loop μ-loop
 loop-holds c = omega arith
 
--- src/main.rt:112:20
+-- src/main.rt:71:20
 pattern-requires : tie.Need-pattern-requires Inv-loop μ-loop
 pattern-requires c κs = search needs
 
--- src/main.rt:112:9
+-- src/main.rt:71:9
 mul-nodes : tie.Need-mul-nodes Inv-loop μ-loop
 mul-nodes c = search needs
 
--- src/main.rt:112:9
+-- src/main.rt:71:9
 element-write-nodes : tie.Need-element-write-nodes Inv-loop μ-loop
 element-write-nodes c = search needs
 
--- src/main.rt:113:9
+-- src/main.rt:72:9
 add-i : tie.Need-add-i Inv-loop μ-loop
 add-i c = search needs
 
--- src/main.rt:111:5
+-- src/main.rt:70:5
 loop-less : tie.Need-loop-less Inv-loop μ-loop
 loop-less c = search needs
 
--- src/main.rt:111:5
+-- src/main.rt:70:5
 loop-again : tie.Need-loop-again Inv-loop μ-loop
 loop-again c = search needs
 
--- src/main.rt:109:1
+-- src/main.rt:68:1
 returns : tie.Need-returns Inv-loop μ-loop
 returns c = search needs
 

@@ -16,55 +16,55 @@ Inv-loop text₀ stream₀ nodes₀ records₀ blocks₀ t8 text stream nodes re
 abbrev μ-loop : tie.MeasureT-loop
 μ-loop text₀ stream₀ nodes₀ records₀ blocks₀ t8 text stream nodes records blocks = 1000000000 - blocks
 
--- src/main.rt:212:9
+-- src/main.rt:194:9
 slice-aggregate-stream : tie.Need-slice-aggregate-stream Inv-loop μ-loop
 slice-aggregate-stream c = search needs
 
--- src/main.rt:216:5
+-- src/main.rt:198:5
 loop-holds : tie.Need-loop-holds Inv-loop μ-loop
 loop-holds c = search needs
 
--- src/main.rt:217:34
+-- src/main.rt:199:34
 slice-aggregate-read-full : tie.Need-slice-aggregate-read-full Inv-loop μ-loop
 slice-aggregate-read-full c = search needs
 
--- src/main.rt:217:13
+-- src/main.rt:199:13
 read-full-requires : tie.Need-read-full-requires Inv-loop μ-loop
 read-full-requires c κs = search needs
 
--- src/main.rt:218:59
+-- src/main.rt:200:59
 slice-aggregate-take-lines : tie.Need-slice-aggregate-take-lines Inv-loop μ-loop
 slice-aggregate-take-lines c = search needs
 
--- src/main.rt:218:9
+-- src/main.rt:200:9
 take-lines-requires : tie.Need-take-lines-requires Inv-loop μ-loop
 take-lines-requires c κs = search needs
 
--- src/main.rt:222:9
+-- src/main.rt:204:9
 add-blocks : tie.Need-add-blocks Inv-loop μ-loop
 add-blocks c = search needs
 
--- src/main.rt:216:5
+-- src/main.rt:198:5
 loop-less : tie.Need-loop-less Inv-loop μ-loop
 loop-less c = search needs
 
--- src/main.rt:216:5
+-- src/main.rt:198:5
 loop-again : tie.Need-loop-again Inv-loop μ-loop
 loop-again c = search needs
 
--- src/main.rt:225:38
+-- src/main.rt:207:38
 slice-aggregate-write-all : tie.Need-slice-aggregate-write-all Inv-loop μ-loop
 slice-aggregate-write-all c = search needs
 
--- src/main.rt:225:9
+-- src/main.rt:207:9
 write-all-requires : tie.Need-write-all-requires Inv-loop μ-loop
 write-all-requires c κs = search needs
 
--- src/main.rt:209:1
+-- src/main.rt:191:1
 returns : tie.Need-returns Inv-loop μ-loop
 returns c = search needs
 
--- src/main.rt:209:1
+-- src/main.rt:191:1
 returns-2 : tie.Need-returns-2 Inv-loop μ-loop
 returns-2 c = search needs
 

@@ -12,35 +12,35 @@ Inv-loop nodes count i₀ i = i ≤ 8192
 abbrev μ-loop : tie.MeasureT-loop
 μ-loop nodes count i₀ i = 8192 - i
 
--- src/main.rt:87:5
+-- src/main.rt:41:5
 loop-holds : tie.Need-loop-holds Inv-loop μ-loop
 loop-holds c = search needs
 
--- src/main.rt:88:12
+-- src/main.rt:42:12
 add-if1 : tie.Need-add-if1 Inv-loop μ-loop
 add-if1 c = search needs
 
--- src/main.rt:91:9
+-- src/main.rt:45:9
 print-record-requires : tie.Need-print-record-requires Inv-loop μ-loop
 print-record-requires c κs = search needs
 
--- src/main.rt:92:9
+-- src/main.rt:46:9
 add-i : tie.Need-add-i Inv-loop μ-loop
 add-i c = search needs
 
--- src/main.rt:87:5
+-- src/main.rt:41:5
 loop-less : tie.Need-loop-less Inv-loop μ-loop
 loop-less c = search needs
 
--- src/main.rt:87:5
+-- src/main.rt:41:5
 loop-again : tie.Need-loop-again Inv-loop μ-loop
 loop-again c = search needs
 
--- src/main.rt:85:1
+-- src/main.rt:39:1
 returns : tie.Need-returns Inv-loop μ-loop
 returns c = search needs
 
--- src/main.rt:85:1
+-- src/main.rt:39:1
 returns-2 : tie.Need-returns-2 Inv-loop μ-loop
 returns-2 c = search needs
 

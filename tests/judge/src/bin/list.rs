@@ -41,7 +41,6 @@ fn list(directory: &Path, count: u64, seed: u64) {
     };
     let mut streams = open("streams.txt");
     let mut answers = open("answers.txt");
-    let mut answers_of_two = open("answers-two.txt");
     let generator = Generator::new();
     let mut tally = Tally::default();
     let fitting = (0..)
@@ -56,11 +55,7 @@ fn list(directory: &Path, count: u64, seed: u64) {
         put(&mut streams, &program_form::records(&stream));
         for reading in Reading::ALL {
             let (answer, tree) = form::read(reading, &stream);
-            let lines = form::lines(&answer, &tree);
-            put(&mut answers, &lines);
-            if reading != Reading::Agreed {
-                put(&mut answers_of_two, &lines);
-            }
+            put(&mut answers, &form::lines(&answer, &tree));
         }
     }
 }

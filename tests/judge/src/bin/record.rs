@@ -61,7 +61,6 @@ fn record(directory: &Path, seed: u64) {
 struct List {
     streams: String,
     answers: String,
-    answers_of_two: String,
     known: HashSet<Vec<u64>>,
     groups: BTreeMap<&'static str, usize>,
     numbers: BTreeMap<(&'static str, u64), usize>,
@@ -86,11 +85,7 @@ impl List {
         self.streams += &program_form::records(stream);
         for reading in Reading::ALL {
             let (answer, tree) = form::read(reading, stream);
-            let lines = form::lines(&answer, &tree);
-            self.answers += &lines;
-            if reading != Reading::Agreed {
-                self.answers_of_two += &lines;
-            }
+            self.answers += &form::lines(&answer, &tree);
             self.count(reading, &answer, &tree);
         }
     }
@@ -113,7 +108,6 @@ impl List {
         for (name, text) in [
             ("streams.txt", &self.streams),
             ("answers.txt", &self.answers),
-            ("answers-two.txt", &self.answers_of_two),
         ] {
             fs::write(directory.join(name), text).expect("a file written");
             println!("{name}: {} bytes", text.len());

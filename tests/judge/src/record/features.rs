@@ -36,9 +36,8 @@ pub enum Feature {
 impl Feature {
     pub fn wanted(&self) -> usize {
         match self {
-            Feature::Fault(..) => 8,
-            Feature::Answer(..) => 6,
-            Feature::Record { .. } => 2,
+            Feature::Fault(..) => 6,
+            Feature::Answer(..) => 4,
             Feature::Line { .. } => 2,
             _ => 1,
         }
