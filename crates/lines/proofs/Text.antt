@@ -85,15 +85,15 @@ fit-more l f (more g gs) = more g (fit-more l f gs)
 length-fours : (l : Line) → length (fours l) ≡ 4
 length-fours (line k p l a) = refl
 
-length-words : (ls : List Line) → length (words ls) ≡ length ls * 4
+pub length-words : (ls : List Line) → length (words ls) ≡ length ls * 4
 length-words [] = refl
 length-words (l ∷ ls) = omega (arith, length-append (fours l) (words ls), length-fours l, length-words ls)
 
-words-more : (ls : List Line) (l : Line) → words (ls ++ l ∷ []) ≡ words ls ++ fours l
+pub words-more : (ls : List Line) (l : Line) → words (ls ++ l ∷ []) ≡ words ls ++ fours l
 words-more [] l = append-nil (fours l)
 words-more (k ∷ ls) l = ap (λ (x : List ℕ). fours k ++ x) (words-more ls l) ∙ sym (append-assoc (fours k) (words ls) (fours l))
 
-show-more : (ls : List Line) (l : Line) → show (ls ++ l ∷ []) ≡ show ls ++ shown l
+pub show-more : (ls : List Line) (l : Line) → show (ls ++ l ∷ []) ≡ show ls ++ shown l
 show-more [] l = append-nil (shown l)
 show-more (k ∷ ls) l = ap (λ (x : List ℕ). shown k ++ x) (show-more ls l) ∙ sym (append-assoc (shown k) (show ls) (shown l))
 

@@ -1,0 +1,4 @@
+pub mod Steps
+pub mod Nth
+pub mod Held
+pub mod Lent
