@@ -1,6 +1,5 @@
 """Runs the proved programs: `intake` for the verdict, `batch` for the two readings. Not proved itself."""
 import os
-import platform
 import shutil
 import subprocess
 import sys
@@ -68,7 +67,7 @@ class Programs:
     def run(self, name, text):
         if self.before is None:
             self.before = self.prepared()
-        command = self.before + [os.path.join(self.folder, name)]
+        command = [self.before, name] if self.before else [os.path.join(self.folder, name)]
         try:
             ended = subprocess.run(command, input=text.encode(), stdout=subprocess.PIPE, stderr=subprocess.PIPE)
         except OSError as error:
@@ -78,12 +77,12 @@ class Programs:
         return ended.stdout.decode("ascii", "replace")
 
     def prepared(self):
-        """The words before a program's path; raises CannotRun where there is no program."""
+        """The command that runs a program of target/bin, none for another folder's; raises CannotRun where there is no program."""
         if self.folder is not None:
             missing = self.missing()
             if missing:
                 raise NoProgram(f"{self.folder} has no program {missing[0]}")
-            return []
+            return ""
         self.folder = os.path.join(ROOT, "target", "bin")
         rt = shutil.which("rt")
         if rt is None:
@@ -92,7 +91,7 @@ class Programs:
             prove(rt)
             if self.missing():
                 raise NoProgram(f"rt check left no program {self.missing()[0]} in target/bin")
-        return loader(rt)
+        return os.path.join(ROOT, "tools", "program")
 
     def missing(self):
         return [name for name in ("intake", "batch") if not os.path.isfile(os.path.join(self.folder, name))]
@@ -106,16 +105,3 @@ def prove(rt):
     )
     if subprocess.run([rt, "check", "intake", "batch"], cwd=ROOT, stdin=subprocess.DEVNULL, stdout=sys.stderr).returncode != 0:
         raise NoProgram("rt check intake batch failed, so there is no proved program to run")
-
-
-def loader(rt):
-    """The kit's loader with its C library, and its emulator where the processor is another."""
-    guide = subprocess.run([rt, "doc"], stdout=subprocess.PIPE).stdout.decode().strip()
-    kit = os.path.dirname(os.path.dirname(guide))
-    for tools in (os.path.join(kit, "on", platform.machine(), "toolchain"), os.path.join(kit, "toolchain")):
-        own = os.path.join(tools, "lib", "ld-linux-x86-64.so.2")
-        emulator = os.path.join(tools, "bin", "qemu-x86_64")
-        if os.path.isfile(own):
-            start = [] if platform.machine() == "x86_64" else [emulator]
-            return start + [own, "--library-path", os.path.join(tools, "lib")]
-    raise NoProgram(f"the toolchain at {kit} has no loader for the proved programs")

@@ -1,12 +1,11 @@
 -- One reading and what it promises: it derives a tree or tells why not, by a number of 1 to 5; the array keeps its length. Assumes nothing.
-use mathlib.Core.Path.{_≡_, refl, sym, ap, _∙_, subst}
+use mathlib.Core.Path.{_≡_, refl, ap, _∙_, subst}
 use mathlib.Core.List.{List, _++_}
 use mathlib.Core.Logic.{_⊎_, inl, inr, by-cases}
 use Prim.Native.Nat.{ℕ, _*_, _≤_}
 use native.Mathlib.Decide.{decLt}
 use native.Mathlib.Omega.{arith}
 use lib.ListN.{length, drop, length-append, length-drop, length-replicate}
-use lib.Seq.{drop-append-seam}
 use Rattle.stream.specs.Formed.{Formed, Malformed}
 use Rattle.stream.specs.declared.reader.Refusal.{Refusal}
 use Rattle.stream.proofs.Judged.{formed-or-not}
@@ -41,10 +40,6 @@ module _ (s : List ℕ) (r : Ranking) (levels : ℕ) where
   pub numbers : {e : Refusal} → Formed s → chunk s (ranks r) levels ≡ fail e → Numbered (e .number)
   numbers f x = subst (Bounded s) x (bounded s f (ranks r) levels)
 
--- the array under a tree's words
-pub under : (n : List ℕ) (t : Forest) → drop (size t * 4) (flat t ++ drop (size t * 4) n) ≡ drop (size t * 4) n
-under n t = ap (λ (k : ℕ). drop k (flat t ++ drop (size t * 4) n)) (sym (length-flat t)) ∙ drop-append-seam (flat t) (drop (size t * 4) n)
-
 zeroed-length : (n : List ℕ) {n′ : List ℕ} → Zeroed n n′ → length n′ ≡ length n
 zeroed-length n e = ap length e ∙ length-replicate (length n) 0
 
@@ -56,9 +51,6 @@ module _ (s : List ℕ) (r : Ranking) {n n′ : List ℕ} {a : Answer} (x : Answ
   told e = ap (λ (z : Answer). z .number) e
 
   -- its numbers, case by case
-  pub six : {p : ℕ} → Malformed s p → a .number ≡ 6
-  six {p} m = told (x .malformed p m .0)
-
   pub accepted : {t : Forest} → Formed s → Chunk s (ranks r) 199 t → (a .number ≡ 0) ⊎ (a .number ≡ 7)
   accepted {t} f d = by-cases (decLt (length n) (size t * 4)) (λ l. inr (told (x .short t f d l .0))) (λ l. inl (told (x .accepts t f d (omega arith) .0)))
 
@@ -78,12 +70,3 @@ module _ (s : List ℕ) (r : Ranking) {n n′ : List ℕ} {a : Answer} (x : Answ
       by-form : Formed s ⊎ ((p : ℕ) × Malformed s p) → length n′ ≡ length n
       by-form (inl f) = by-side f (side s r 199)
       by-form (inr b) = zeroed-length n (x .malformed (b .0) (b .1) .1)
-
-  -- 0 and 7 are told of well-formed streams alone
-  pub well : (a .number ≡ 0) ⊎ (a .number ≡ 7) → Formed s
-  well took = by-form (formed-or-not s) took
-    where
-      by-form : Formed s ⊎ ((p : ℕ) × Malformed s p) → (a .number ≡ 0) ⊎ (a .number ≡ 7) → Formed s
-      by-form (inl f) k = f
-      by-form (inr m) (inl e) = let z = six (m .1) in absurd (omega arith)
-      by-form (inr m) (inr e) = let z = six (m .1) in absurd (omega arith)

@@ -31,21 +31,18 @@ fn line_of(stream: &[u64], place: usize) -> u64
     }
 }
 
-// 01's order: 6; the crate reading's 1 to 5; the manual reading's; 8; 7.
+// 01's order: 6; the crate reading's 1 to 5; the manual reading's; 8; 7. Where no `~=` is noted the crate reading is all: it derives no tree, or
+// the one that the manual's ranking derives too.
 pub fn agreed_reading(stream: &[u64], nodes: &mut [u64]) -> Answer
     ensures { λ r. ⌜ Agreed (now (stream .entry)) (now (nodes .entry)) (now (nodes .exit)) r ⌝ }
 {
-    let r = parser::reading(stream, nodes, Ranking::Crate);
-    let first = r.first;
-    let a = r.answer;
-    if !took(a) {
-        return a;
+    let a = parser::reading(stream, nodes, Ranking::Crate);
+    let first = a.first;
+    if first == NONE {
+        return a.answer;
     }
     let b = parser::manual_reading(stream, nodes);
     if !took(b) {
-        return b;
-    }
-    if first == NONE {
         return b;
     }
     tree::clear(nodes);

@@ -18,7 +18,6 @@ pub mod Size
 pub mod Bare
 pub mod Unroll
 pub mod Rankings
-pub mod Scripts
 pub mod Unmet
 pub mod Theorems
 pub mod Stable

@@ -5,4 +5,3 @@ pub mod Reading
 pub mod Productions
 pub mod Levels
 pub mod Compare
-pub mod Scripts

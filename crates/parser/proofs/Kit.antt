@@ -82,6 +82,10 @@ alter e f = record { trees = f .trees; says = e ∙ f .says; grown = f .grown; l
 pub revalue : {w′ : Forest → Note → Note} {s : List ℕ} {q : Note} {low used more : ℕ} {n n′ : List ℕ} {o : Out} {c : Cursor} {u v w : ℕ} → v ≡ w → Fined w′ s q low used more n n′ o c u v → Fined w′ s q low used more n n′ o c u w
 revalue {w′} {s} {q} {low} {used} {more} {n} {n′} {o} {c} {u} e f = subst (Fined w′ s q low used more n n′ o c u) e f
 
+-- with more room
+pub roomier : {w′ : Forest → Note → Note} {s : List ℕ} {q : Note} {low used more : ℕ} {n n′ : List ℕ} {o : Out} {c : Cursor} {u v : ℕ} (more′ : ℕ) → Fined w′ s q low used more n n′ o c u v → more ≤ more′ → Fined w′ s q low used more′ n n′ o c u v
+roomier more′ f l = record { trees = f .trees; says = f .says; grown = f .grown; laid = f .laid; at = f .at; later = f .later; room = omega (arith, f .room); noted = f .noted }
+
 -- from another note, which is the same
 pub still : (q : Note) → q ≡ q
 still q = refl

@@ -464,19 +464,26 @@ fn block(
 {
     match stats(stream, nodes, ranking, c, used + 1, g) {
         Step::Fail(e) => Step::Fail(e),
-        Step::Done(d, u) => match stream::reader::look_ahead(stream, d, 0) {
-            Look::End(e) => close_block(stream, nodes, used, 0, e, u),
-            Look::Seen(t, e) => {
-                if t.kind == RETURN {
-                    match ret(stream, nodes, ranking, e, u, g, t.line) {
-                        Step::Fail(e) => Step::Fail(e),
-                        Step::Done(f, v) => close_block(stream, nodes, used, 1, f, v),
+        Step::Done(d, u) => {
+            let s = match stream::reader::look_ahead(stream, d, 0) {
+                Look::End(e) => Sum::Done(e, u, 0),
+                Look::Seen(t, e) => {
+                    if t.kind == RETURN {
+                        let f = e;
+                        match ret(stream, nodes, ranking, f, u, g, t.line) {
+                            Step::Fail(e) => Sum::Fail(e),
+                            Step::Done(f, v) => Sum::Done(f, v, 1),
+                        }
+                    } else {
+                        Sum::Done(e, u, 0)
                     }
-                } else {
-                    close_block(stream, nodes, used, 0, e, u)
                 }
+            };
+            match s {
+                Sum::Fail(e) => Step::Fail(e),
+                Sum::Done(e, v, n) => close_block(stream, nodes, used, n, e, v),
             }
-        },
+        }
     }
 }
 
@@ -605,22 +612,27 @@ fn ret(
             return Step::Fail(e);
         }
     };
-    match stream::reader::look_ahead(stream, d, 0) {
-        Look::End(e) => close_return(stream, nodes, used, 0, line, e, used + 1),
+    let s = match stream::reader::look_ahead(stream, d, 0) {
+        Look::End(e) => Sum::Done(e, used + 1, 0),
         Look::Seen(t, e) => {
             let kind = t.kind;
             match kind {
-                END => close_return(stream, nodes, used, 0, line, e, used + 1),
-                SEMI_COLON => close_return(stream, nodes, used, 0, line, e, used + 1),
-                ELSE => close_return(stream, nodes, used, 0, line, e, used + 1),
-                ELSE_IF => close_return(stream, nodes, used, 0, line, e, used + 1),
-                UNTIL => close_return(stream, nodes, used, 0, line, e, used + 1),
-                _ => match exps(stream, nodes, ranking, e, used + 1, g) {
-                    Sum::Fail(e) => Step::Fail(e),
-                    Sum::Done(f, u, n) => close_return(stream, nodes, used, n, line, f, u),
-                },
+                END => Sum::Done(e, used + 1, 0),
+                SEMI_COLON => Sum::Done(e, used + 1, 0),
+                ELSE => Sum::Done(e, used + 1, 0),
+                ELSE_IF => Sum::Done(e, used + 1, 0),
+                UNTIL => Sum::Done(e, used + 1, 0),
+                _ => {
+                    let f = e;
+                    let r = exps(stream, nodes, ranking, f, used + 1, g);
+                    r
+                }
             }
         }
+    };
+    match s {
+        Sum::Fail(e) => Step::Fail(e),
+        Sum::Done(e, u, n) => close_return(stream, nodes, used, n, line, e, u),
     }
 }
 
@@ -1397,6 +1409,17 @@ fn tails(
     requires { ⌜ Ready (now stream) c used 0 ⌝ }
     ensures { λ r. ⌜ Sums (now (stream .entry)) (c .note) (c .place) (c .place) used 0 (now (nodes .entry)) (now (nodes .exit)) (under (now (stream .entry)) ranking limit g 0 tails (c .place) (c .mark)) r ⌝ }
 {
+    match stream::reader::look_ahead(stream, c, 0) {
+        Look::End(d) => {
+            return Sum::Done(d, used, 0);
+        }
+        Look::Seen(t, d) => {
+            let priority = operators::binary_priority(ranking, t.kind);
+            if priority.left <= limit {
+                return Sum::Done(d, used, 0);
+            }
+        }
+    }
     let mut at = c;
     let mut u = used;
     let mut n: u64 = 0;
@@ -1480,15 +1503,25 @@ fn simp(
                 TRUE => leaf(stream, nodes, d, used, 24),
                 FALSE => leaf(stream, nodes, d, used, 25),
                 DOTS => leaf(stream, nodes, d, used, 26),
-                LEFT_BRACE => tab(stream, nodes, ranking, d, used, g),
+                LEFT_BRACE => {
+                    let e = d;
+                    let r = tab(stream, nodes, ranking, e, used, g);
+                    r
+                }
                 FUNCTION => match stream::reader::take_next(stream, d) {
                     Next::Fail(e) => Step::Fail(e),
-                    Next::Took(_, e) => def(stream, nodes, ranking, e, used, g),
+                    Next::Took(_, e) => {
+                        let r = def(stream, nodes, ranking, e, used, g);
+                        r
+                    }
                 },
-                _ => match pexp(stream, nodes, ranking, d, used, g) {
-                    Sum::Fail(e) => Step::Fail(e),
-                    Sum::Done(e, u, _) => Step::Done(e, u),
-                },
+                _ => {
+                    let e = d;
+                    match pexp(stream, nodes, ranking, e, used, g) {
+                        Sum::Fail(e) => Step::Fail(e),
+                        Sum::Done(e, u, _) => Step::Done(e, u),
+                    }
+                }
             }
         }
     }

@@ -93,16 +93,20 @@ in-all : (cs : List (List Op)) → ((c : List Op) → In c cs → Good c) → Al
 in-all [] f = tt
 in-all (c ∷ cs) f = (f c here, in-all cs (λ d i. f d (there i)))
 
+-- where no `~=` quarrels, the manual's ranking derives the crate's tree
+pub quiet : (s : List ℕ) (g : ℕ) {t : Forest} → Chunk s (ranks Crate) g t → ((i : ℕ) → ¬ Quarrelling s t i) → Chunk s (ranks Manual) g t
+quiet s g {t} c f =
+    let c′ = to-terms s (ranks Crate) (is-ranked Crate) c in
+    let a : All Good (chains s t) = in-all (chains s t) (λ e i o z. f (o .place) record { chain = e; its = i; one = o; quarrels = z; there = refl }) in
+    let y = moved-fits s (ranks Crate) (ranks Manual) crate-keeps manual-keeps same-operators same-highs Good good (fits s (ranks Crate) c′) a in
+    from-terms s (ranks Manual) (is-ranked Manual) (carry s (ranks Crate) (ranks Manual) none-too c′ y)
+
 -- the two rankings give a stream one tree if and only if no `~=` of it quarrels
 pub differ : (s : List ℕ) (g : ℕ) {t u : Forest} → Chunk s (ranks Crate) g t → Chunk s (ranks Manual) g u → (t ≡ u) ↔ ((i : ℕ) → ¬ Quarrelling s t i)
-differ s g {t} {u} c d =
-    let c′ = to-terms s (ranks Crate) (is-ranked Crate) c in
-    let x : Fits s (ranks Crate) t = fits s (ranks Crate) c′ in (
-      (λ q i z.
-          let y : Fits s (ranks Manual) t = subst (Fits s (ranks Manual)) (sym q) (fits s (ranks Manual) (to-terms s (ranks Manual) (is-ranked Manual) d)) in
-          all-in (both-fits s (ranks Crate) (ranks Manual) crate-keeps manual-keeps same-operators same-highs Good good x y) (z .its) (z .one) (z .quarrels)),
-      (λ f.
-          let a : All Good (chains s t) = in-all (chains s t) (λ e i o z. f (o .place) record { chain = e; its = i; one = o; quarrels = z; there = refl }) in
-          let y = moved-fits s (ranks Crate) (ranks Manual) crate-keeps manual-keeps same-operators same-highs Good good x a in
-          unique s (ranks Manual) g (is-ranked Manual) (from-terms s (ranks Manual) (is-ranked Manual) (carry s (ranks Crate) (ranks Manual) none-too c′ y)) d),
-    )
+differ s g {t} {u} c d = (
+  (λ q i z.
+      let x : Fits s (ranks Crate) t = fits s (ranks Crate) (to-terms s (ranks Crate) (is-ranked Crate) c) in
+      let y : Fits s (ranks Manual) t = subst (Fits s (ranks Manual)) (sym q) (fits s (ranks Manual) (to-terms s (ranks Manual) (is-ranked Manual) d)) in
+      all-in (both-fits s (ranks Crate) (ranks Manual) crate-keeps manual-keeps same-operators same-highs Good good x y) (z .its) (z .one) (z .quarrels)),
+  (λ f. unique s (ranks Manual) g (is-ranked Manual) (quiet s g c f) d),
+)

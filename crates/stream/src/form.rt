@@ -2,10 +2,8 @@
 use crate::kinds::END_OF_STREAM;
 use crate::kinds::FLOAT;
 use crate::kinds::INTEGER;
-use crate::kinds::NAME;
-use crate::kinds::STRING;
 ghost use mathlib.Core.Path.{_≡_};
-ghost use Rattle.stream.specs.Formed.{pays, tokenWords, endWords, Judged};
+ghost use Rattle.stream.specs.Formed.{tokenWords, endWords, Judged};
 
 pub enum Form {
     Well,
@@ -18,31 +16,25 @@ const MOST: u64 = 4294967295;
 // The words of as many tokens as there may be, and of the end's record.
 const WORDS: usize = 4194308;
 
-fn is_payload(kind: u64, payload: u64) -> bool
-    ensures { λ r. ⌜ r ≡ pays kind payload ⌝ }
-{
-    match kind {
-        INTEGER => true,
-        FLOAT => true,
-        STRING => payload <= MOST,
-        NAME => payload <= MOST,
-        _ => payload == 0,
-    }
-}
-
 fn is_token(kind: u64, payload: u64, line: u64, after: u64) -> bool
     ensures { λ r. ⌜ r ≡ tokenWords kind payload line after ⌝ }
 {
-    if END_OF_STREAM <= kind {
-        return false;
-    }
-    if !is_payload(kind, payload) {
-        return false;
-    }
     if MOST < line {
         return false;
     }
-    after <= MOST
+    if MOST < after {
+        return false;
+    }
+    if kind < INTEGER {
+        return payload == 0;
+    }
+    if kind <= FLOAT {
+        return true;
+    }
+    if kind < END_OF_STREAM {
+        return payload <= MOST;
+    }
+    false
 }
 
 fn is_end(kind: u64, payload: u64, line: u64, after: u64) -> bool

@@ -8,9 +8,9 @@ ghost use Rattle.stream.specs.Reader.{tokenAt, reached, readAhead, told,
 
 // What a user of the cursor notes on the way: the reader's functions hand it on and never look at it.
 pub struct Note {
-    pub heard: bool,
     pub waits: usize,
     pub found: usize,
+    pub heard: bool,
 }
 
 // Where the reading is: the next token, how far the tokens were asked for, and what was noted by then.

@@ -13,9 +13,9 @@ const START: Cursor = Cursor {
     place: 0,
     mark: 0,
     note: Note {
-        heard: false,
         waits: 0,
         found: 0,
+        heard: false,
     },
 };
 

@@ -215,7 +215,7 @@ use Rattle.parser.proofs.+args+arm+arms+block+body+call+def+dos+each+en
 use Rattle.parser.proofs.+args+arm+arms+block+body+call+def+dos+each+end+estat+exps+fld+flds+fors+fun+head+idx+ifs+item+key+lfun+list+loc+meth+named+num+pexp+prim+rep+ret+set+simp+stat+stats+sub+suf+tab+tail+tails+targs+upto+whiles.Proof.ARGS.{args-get-next-requires, args-enum-known-e, args-enum-known-t, args-list-requires, args-add-tab, args-tab-requires, args-enum-known-e-2, args-enum-known-e-3, args-sub-put, args-put-requires, args-add-leaf, args-leaf-requires, args-enum-known-e-4, args-enum-known-e-5, args-sub-put-2, args-put-requires-2, args-refuse-requires, args-returns, args-same-length, args-returns-2, args-same-length-2, args-returns-3, args-same-length-3, args-returns-4, args-same-length-4, args-returns-5, args-same-length-5, args-returns-6, args-returns-7}
 use Rattle.parser.proofs.+args+arm+arms+block+body+call+def+dos+each+end+estat+exps+fld+flds+fors+fun+head+idx+ifs+item+key+lfun+list+loc+meth+named+num+pexp+prim+rep+ret+set+simp+stat+stats+sub+suf+tab+tail+tails+targs+upto+whiles.Proof.ARM.{arm-sub-requires, arm-enum-known-e, arm-enum-known-d, arm-expect-requires, arm-enum-known-e-2, arm-enum-known-e-3, arm-block-requires, arm-same-length, arm-returns, arm-same-length-2, arm-returns-2, arm-same-length-3, arm-returns-3}
 use Rattle.parser.proofs.+args+arm+arms+block+body+call+def+dos+each+end+estat+exps+fld+flds+fors+fun+head+idx+ifs+item+key+lfun+list+loc+meth+named+num+pexp+prim+rep+ret+set+simp+stat+stats+sub+suf+tab+tail+tails+targs+upto+whiles.Proof.ARMS.{arms-Inv-loop, arms-μ-loop, arms-loop-holds, arms-check-ahead-requires, arms-same-length, arms-returns, arms-take-next-requires, arms-enum-known-e, arms-enum-known-e-2, arms-same-length-2, arms-returns-2, arms-arm-requires, arms-enum-known-e-3, arms-same-length-3, arms-returns-3, arms-enum-known-f, arms-add-n, arms-loop-less, arms-loop-again}
-use Rattle.parser.proofs.+args+arm+arms+block+body+call+def+dos+each+end+estat+exps+fld+flds+fors+fun+head+idx+ifs+item+key+lfun+list+loc+meth+named+num+pexp+prim+rep+ret+set+simp+stat+stats+sub+suf+tab+tail+tails+targs+upto+whiles.Proof.BLOCK.{block-add-stats, block-stats-requires, block-enum-known-e, block-enum-known-d, block-look-ahead-requires, block-enum-known-e-2, block-close-block-requires, block-enum-known-t, block-ret-requires, block-enum-known-e-3, block-enum-known-f, block-close-block-requires-2, block-close-block-requires-3, block-same-length, block-returns, block-same-length-2, block-returns-2, block-same-length-3, block-returns-3, block-same-length-4, block-returns-4, block-same-length-5, block-returns-5}
+use Rattle.parser.proofs.+args+arm+arms+block+body+call+def+dos+each+end+estat+exps+fld+flds+fors+fun+head+idx+ifs+item+key+lfun+list+loc+meth+named+num+pexp+prim+rep+ret+set+simp+stat+stats+sub+suf+tab+tail+tails+targs+upto+whiles.Proof.BLOCK.{block-add-stats, block-stats-requires, block-enum-known-e, block-enum-known-d, block-look-ahead-requires, block-enum-known-e-2, block-enum-known-t, block-ret-requires, block-enum-known-e-3, block-enum-known-f, block-enum-known-s, block-enum-known-s-2, block-close-block-requires, block-same-length, block-returns, block-same-length-2, block-returns-2, block-same-length-3, block-returns-3}
 use Rattle.parser.proofs.+args+arm+arms+block+body+call+def+dos+each+end+estat+exps+fld+flds+fors+fun+head+idx+ifs+item+key+lfun+list+loc+meth+named+num+pexp+prim+rep+ret+set+simp+stat+stats+sub+suf+tab+tail+tails+targs+upto+whiles.Proof.BODY.{body-expect-requires, body-enum-known-e, body-enum-known-d, body-end-requires, body-returns, body-same-length, body-returns-2}
 use Rattle.parser.proofs.+args+arm+arms+block+body+call+def+dos+each+end+estat+exps+fld+flds+fors+fun+head+idx+ifs+item+key+lfun+list+loc+meth+named+num+pexp+prim+rep+ret+set+simp+stat+stats+sub+suf+tab+tail+tails+targs+upto+whiles.Proof.CALL.{call-add-args, call-args-requires, call-enum-known-e, call-enum-known-d, call-close-requires, call-same-length, call-returns, call-same-length-2, call-returns-2}
 use Rattle.parser.proofs.+args+arm+arms+block+body+call+def+dos+each+end+estat+exps+fld+flds+fors+fun+head+idx+ifs+item+key+lfun+list+loc+meth+named+num+pexp+prim+rep+ret+set+simp+stat+stats+sub+suf+tab+tail+tails+targs+upto+whiles.Proof.DEF.{def-expect-next-requires, def-enum-known-d, def-enum-known-e, def-returns, def-add-parlist, def-parlist-requires, def-enum-known-e-2, def-enum-known-e-3, def-expect-requires, def-enum-known-e-4, def-enum-known-f, def-end-requires, def-enum-known-e-5, def-enum-known-h, def-close-requires, def-same-length, def-returns-2, def-same-length-2, def-returns-3, def-same-length-3, def-returns-4, def-same-length-4, def-returns-5}
@@ -242,7 +242,7 @@ use Rattle.parser.proofs.+args+arm+arms+block+body+call+def+dos+each+en
 use Rattle.parser.proofs.+args+arm+arms+block+body+call+def+dos+each+end+estat+exps+fld+flds+fors+fun+head+idx+ifs+item+key+lfun+list+loc+meth+named+num+pexp+prim+rep+ret+set+simp+stat+stats+sub+suf+tab+tail+tails+targs+upto+whiles.Proof.PEXP.{pexp-Inv-loop, pexp-μ-loop, pexp-add-prim, pexp-prim-requires, pexp-enum-known-e, pexp-same-length, pexp-returns, pexp-enum-known-d, pexp-loop-holds, pexp-look-ahead-requires, pexp-enum-known-d-2, pexp-sub-put, pexp-put-requires, pexp-same-length-2, pexp-returns-2, pexp-enum-known-t, pexp-suf-requires, pexp-enum-known-e-2, pexp-add-n, pexp-loop-less, pexp-loop-again, pexp-enum-told, pexp-sub-put-2, pexp-put-requires-2, pexp-same-length-3, pexp-returns-3, pexp-enum-known-e-3, pexp-same-length-4, pexp-returns-4}
 use Rattle.parser.proofs.+args+arm+arms+block+body+call+def+dos+each+end+estat+exps+fld+flds+fors+fun+head+idx+ifs+item+key+lfun+list+loc+meth+named+num+pexp+prim+rep+ret+set+simp+stat+stats+sub+suf+tab+tail+tails+targs+upto+whiles.Proof.PRIM.{prim-take-next-requires, prim-enum-known-e, prim-enum-known-t, prim-add-sub, prim-sub-requires, prim-enum-known-e-2, prim-enum-known-e-3, prim-expect-requires, prim-enum-known-e-4, prim-enum-known-f, prim-sub-put, prim-put-requires, prim-put-requires-2, prim-add-t36, prim-refuse-requires, prim-returns, prim-same-length, prim-returns-2, prim-same-length-2, prim-returns-3, prim-same-length-3, prim-returns-4, prim-same-length-4, prim-returns-5, prim-returns-6}
 use Rattle.parser.proofs.+args+arm+arms+block+body+call+def+dos+each+end+estat+exps+fld+flds+fors+fun+head+idx+ifs+item+key+lfun+list+loc+meth+named+num+pexp+prim+rep+ret+set+simp+stat+stats+sub+suf+tab+tail+tails+targs+upto+whiles.Proof.REP.{rep-expect-next-requires, rep-enum-known-d, rep-enum-known-e, rep-returns, rep-add-block, rep-block-requires, rep-enum-known-e-2, rep-enum-known-e-3, rep-expect-requires, rep-enum-known-e-4, rep-enum-known-f, rep-sub-requires, rep-enum-known-e-5, rep-enum-known-h, rep-close-requires, rep-same-length, rep-returns-2, rep-same-length-2, rep-returns-3, rep-same-length-3, rep-returns-4, rep-same-length-4, rep-returns-5}
-use Rattle.parser.proofs.+args+arm+arms+block+body+call+def+dos+each+end+estat+exps+fld+flds+fors+fun+head+idx+ifs+item+key+lfun+list+loc+meth+named+num+pexp+prim+rep+ret+set+simp+stat+stats+sub+suf+tab+tail+tails+targs+upto+whiles.Proof.RET.{ret-expect-next-requires, ret-enum-known-d, ret-enum-known-e, ret-returns, ret-look-ahead-requires, ret-enum-known-e-2, ret-add-close-return, ret-close-return-requires, ret-enum-known-t, ret-add-close-return-2, ret-close-return-requires-2, ret-add-close-return-3, ret-close-return-requires-3, ret-add-close-return-4, ret-close-return-requires-4, ret-add-close-return-5, ret-close-return-requires-5, ret-add-close-return-6, ret-close-return-requires-6, ret-add-exps, ret-exps-requires, ret-enum-known-e-3, ret-enum-known-f, ret-close-return-requires-7, ret-same-length, ret-returns-2, ret-same-length-2, ret-returns-3, ret-same-length-3, ret-returns-4, ret-same-length-4, ret-returns-5, ret-same-length-5, ret-returns-6, ret-same-length-6, ret-returns-7, ret-same-length-7, ret-returns-8, ret-same-length-8, ret-returns-9}
+use Rattle.parser.proofs.+args+arm+arms+block+body+call+def+dos+each+end+estat+exps+fld+flds+fors+fun+head+idx+ifs+item+key+lfun+list+loc+meth+named+num+pexp+prim+rep+ret+set+simp+stat+stats+sub+suf+tab+tail+tails+targs+upto+whiles.Proof.RET.{ret-expect-next-requires, ret-enum-known-d, ret-enum-known-e, ret-returns, ret-look-ahead-requires, ret-enum-known-e-2, ret-add-t26, ret-enum-known-t, ret-add-t28, ret-add-t29, ret-add-t30, ret-add-t31, ret-add-t32, ret-add-exps, ret-exps-requires, ret-enum-known-s, ret-enum-known-s-2, ret-close-return-requires, ret-same-length, ret-returns-2, ret-same-length-2, ret-returns-3}
 use Rattle.parser.proofs.+args+arm+arms+block+body+call+def+dos+each+end+estat+exps+fld+flds+fors+fun+head+idx+ifs+item+key+lfun+list+loc+meth+named+num+pexp+prim+rep+ret+set+simp+stat+stats+sub+suf+tab+tail+tails+targs+upto+whiles.Proof.SET.{set-targs-requires, set-enum-known-e, set-enum-known-d, set-expect-requires, set-enum-known-e-2, set-enum-known-e-3, set-exps-requires, set-enum-known-e-4, set-enum-known-f, set-same-length, set-returns, set-same-length-2, set-returns-2, set-same-length-3, set-returns-3, set-same-length-4, set-returns-4}
 use Rattle.parser.proofs.+args+arm+arms+block+body+call+def+dos+each+end+estat+exps+fld+flds+fors+fun+head+idx+ifs+item+key+lfun+list+loc+meth+named+num+pexp+prim+rep+ret+set+simp+stat+stats+sub+suf+tab+tail+tails+targs+upto+whiles.Proof.SIMP.{simp-get-next-requires, simp-enum-known-e, simp-enum-known-t, simp-leaf-requires, simp-leaf-requires-2, simp-leaf-requires-3, simp-leaf-requires-4, simp-leaf-requires-5, simp-leaf-requires-6, simp-leaf-requires-7, simp-tab-requires, simp-take-next-requires, simp-enum-known-e-2, simp-enum-known-e-3, simp-def-requires, simp-pexp-requires, simp-enum-known-e-4, simp-enum-known-e-5, simp-returns, simp-same-length, simp-returns-2, simp-same-length-2, simp-returns-3, simp-same-length-3, simp-returns-4, simp-same-length-4, simp-returns-5, simp-same-length-5, simp-returns-6, simp-same-length-6, simp-returns-7, simp-same-length-7, simp-returns-8, simp-same-length-8, simp-returns-9, simp-returns-10, simp-same-length-9, simp-returns-11, simp-same-length-10, simp-returns-12, simp-same-length-11, simp-returns-13}
 use Rattle.parser.proofs.+args+arm+arms+block+body+call+def+dos+each+end+estat+exps+fld+flds+fors+fun+head+idx+ifs+item+key+lfun+list+loc+meth+named+num+pexp+prim+rep+ret+set+simp+stat+stats+sub+suf+tab+tail+tails+targs+upto+whiles.Proof.STAT.{stat-deep-requires, stat-returns, stat-get-next-requires, stat-enum-known-e, stat-enum-known-t, stat-sub-ifs, stat-ifs-requires, stat-sub-whiles, stat-whiles-requires, stat-sub-dos, stat-dos-requires, stat-sub-fors, stat-fors-requires, stat-sub-rep, stat-rep-requires, stat-sub-fun, stat-fun-requires, stat-check-ahead-requires, stat-sub-lfun, stat-lfun-requires, stat-sub-loc, stat-loc-requires, stat-label-requires, stat-stop-requires, stat-goto-requires, stat-sub-estat, stat-estat-requires, stat-returns-2, stat-same-length, stat-returns-3, stat-same-length-2, stat-returns-4, stat-same-length-3, stat-returns-5, stat-same-length-4, stat-returns-6, stat-same-length-5, stat-returns-7, stat-same-length-6, stat-returns-8, stat-same-length-7, stat-returns-9, stat-same-length-8, stat-returns-10, stat-same-length-9, stat-returns-11, stat-same-length-10, stat-returns-12, stat-same-length-11, stat-returns-13, stat-same-length-12, stat-returns-14}
@@ -251,7 +251,7 @@ use Rattle.parser.proofs.+args+arm+arms+block+body+call+def+dos+each+en
 use Rattle.parser.proofs.+args+arm+arms+block+body+call+def+dos+each+end+estat+exps+fld+flds+fors+fun+head+idx+ifs+item+key+lfun+list+loc+meth+named+num+pexp+prim+rep+ret+set+simp+stat+stats+sub+suf+tab+tail+tails+targs+upto+whiles.Proof.SUF.{suf-field-name-requires, suf-tagged-requires, suf-idx-requires, suf-tagged-requires-2, suf-meth-requires, suf-tagged-requires-3, suf-call-requires, suf-tagged-requires-4, suf-call-requires-2, suf-tagged-requires-5, suf-call-requires-3, suf-tagged-requires-6, suf-same-length, suf-returns, suf-same-length-2, suf-returns-2, suf-same-length-3, suf-returns-3, suf-same-length-4, suf-returns-4, suf-same-length-5, suf-returns-5, suf-same-length-6, suf-returns-6, suf-returns-7}
 use Rattle.parser.proofs.+args+arm+arms+block+body+call+def+dos+each+end+estat+exps+fld+flds+fors+fun+head+idx+ifs+item+key+lfun+list+loc+meth+named+num+pexp+prim+rep+ret+set+simp+stat+stats+sub+suf+tab+tail+tails+targs+upto+whiles.Proof.TAB.{tab-expect-next-requires, tab-enum-known-d, tab-enum-known-e, tab-returns, tab-add-flds, tab-flds-requires, tab-enum-known-e-2, tab-enum-known-e-3, tab-close-requires, tab-same-length, tab-returns-2, tab-same-length-2, tab-returns-3}
 use Rattle.parser.proofs.+args+arm+arms+block+body+call+def+dos+each+end+estat+exps+fld+flds+fors+fun+head+idx+ifs+item+key+lfun+list+loc+meth+named+num+pexp+prim+rep+ret+set+simp+stat+stats+sub+suf+tab+tail+tails+targs+upto+whiles.Proof.TAIL.{tail-take-next-requires, tail-enum-known-e, tail-enum-known-t, tail-hear-requires, tail-add-sub, tail-sub-requires, tail-enum-known-e-2, tail-enum-known-e-3, tail-close-requires, tail-returns, tail-same-length, tail-returns-2, tail-same-length-2, tail-returns-3}
-use Rattle.parser.proofs.+args+arm+arms+block+body+call+def+dos+each+end+estat+exps+fld+flds+fors+fun+head+idx+ifs+item+key+lfun+list+loc+meth+named+num+pexp+prim+rep+ret+set+simp+stat+stats+sub+suf+tab+tail+tails+targs+upto+whiles.Proof.TAILS.{tails-Inv-loop, tails-μ-loop, tails-loop-holds, tails-look-ahead-requires, tails-enum-known-d, tails-same-length, tails-returns, tails-enum-known-t, tails-get-binary-operator-requires, tails-enum-told, tails-same-length-2, tails-returns-2, tails-enum-known-op, tails-binary-priority-requires, tails-same-length-3, tails-returns-3, tails-tail-requires, tails-enum-known-e, tails-same-length-4, tails-returns-4, tails-enum-known-e-2, tails-add-n, tails-loop-less, tails-loop-again}
+use Rattle.parser.proofs.+args+arm+arms+block+body+call+def+dos+each+end+estat+exps+fld+flds+fors+fun+head+idx+ifs+item+key+lfun+list+loc+meth+named+num+pexp+prim+rep+ret+set+simp+stat+stats+sub+suf+tab+tail+tails+targs+upto+whiles.Proof.TAILS.{tails-Inv-loop, tails-μ-loop, tails-look-ahead-requires, tails-enum-known-d, tails-returns, tails-enum-known-t, tails-binary-priority-requires, tails-returns-2, tails-loop-holds, tails-look-ahead-requires-2, tails-enum-known-d-2, tails-same-length, tails-returns-3, tails-enum-known-t-2, tails-get-binary-operator-requires, tails-enum-told, tails-same-length-2, tails-returns-4, tails-enum-known-op, tails-binary-priority-requires-2, tails-same-length-3, tails-returns-5, tails-tail-requires, tails-enum-known-e, tails-same-length-4, tails-returns-6, tails-enum-known-e-2, tails-add-n, tails-loop-less, tails-loop-again}
 use Rattle.parser.proofs.+args+arm+arms+block+body+call+def+dos+each+end+estat+exps+fld+flds+fors+fun+head+idx+ifs+item+key+lfun+list+loc+meth+named+num+pexp+prim+rep+ret+set+simp+stat+stats+sub+suf+tab+tail+tails+targs+upto+whiles.Proof.TARGS.{targs-Inv-loop, targs-μ-loop, targs-loop-holds, targs-check-ahead-requires, targs-same-length, targs-returns, targs-take-next-requires, targs-enum-known-e, targs-enum-known-e-2, targs-same-length-2, targs-returns-2, targs-pexp-requires, targs-enum-known-e-3, targs-same-length-3, targs-returns-3, targs-enum-known-f, targs-is-target-requires, targs-misfit-requires, targs-same-length-4, targs-returns-4, targs-add-n, targs-loop-less, targs-loop-again}
 use Rattle.parser.proofs.+args+arm+arms+block+body+call+def+dos+each+end+estat+exps+fld+flds+fors+fun+head+idx+ifs+item+key+lfun+list+loc+meth+named+num+pexp+prim+rep+ret+set+simp+stat+stats+sub+suf+tab+tail+tails+targs+upto+whiles.Proof.UPTO.{upto-sub-requires, upto-enum-known-e, upto-enum-known-d, upto-check-ahead-requires, upto-body-requires, upto-same-length, upto-returns, upto-take-next-requires, upto-enum-known-e-2, upto-enum-known-f, upto-sub-requires-2, upto-enum-known-e-3, upto-enum-known-h, upto-body-requires-2, upto-same-length-2, upto-returns-2, upto-same-length-3, upto-returns-3, upto-same-length-4, upto-returns-4, upto-same-length-5, upto-returns-5}
 use Rattle.parser.proofs.+args+arm+arms+block+body+call+def+dos+each+end+estat+exps+fld+flds+fors+fun+head+idx+ifs+item+key+lfun+list+loc+meth+named+num+pexp+prim+rep+ret+set+simp+stat+stats+sub+suf+tab+tail+tails+targs+upto+whiles.Proof.WHILES.{whiles-expect-next-requires, whiles-enum-known-d, whiles-enum-known-e, whiles-returns, whiles-add-sub, whiles-sub-requires, whiles-enum-known-e-2, whiles-enum-known-e-3, whiles-body-requires, whiles-enum-known-e-4, whiles-enum-known-f, whiles-close-requires, whiles-same-length, whiles-returns-2, whiles-same-length-2, whiles-returns-3, whiles-same-length-3, whiles-returns-4}
@@ -405,10 +405,10 @@ pub +args+arm+arms+block+body+call+def+dos+each+end+estat+exps+fld+flds+fors+fun
       stats.Post,
       look-ahead-reads.Asked,
       look-ahead-reads.Learnt,
-      close-block-reads.Asked,
-      close-block-reads.Learnt,
       ret-below t,
       ret.Post,
+      close-block-reads.Asked,
+      close-block-reads.Learnt,
     )
     (block-at t)
     block.Post
@@ -418,23 +418,19 @@ pub +args+arm+arms+block+body+call+def+dos+each+end+estat+exps+fld+flds+fors+fun
     (block-enum-known-d t)
     (block-look-ahead-requires t)
     (block-enum-known-e-2 t)
-    (block-close-block-requires t)
     (block-enum-known-t t)
     (block-ret-requires t)
     (block-enum-known-e-3 t)
     (block-enum-known-f t)
-    (block-close-block-requires-2 t)
-    (block-close-block-requires-3 t)
+    (block-enum-known-s t)
+    (block-enum-known-s-2 t)
+    (block-close-block-requires t)
     (block-same-length t)
     (block-returns t)
     (block-same-length-2 t)
     (block-returns-2 t)
     (block-same-length-3 t)
-    (block-returns-3 t)
-    (block-same-length-4 t)
-    (block-returns-4 t)
-    (block-same-length-5 t)
-    (block-returns-5 t))
+    (block-returns-3 t))
     (λ t. body-lts.spec
     (expect-reads.Asked, expect-reads.Learnt, end-below t, end.Post)
     (body-at t)
@@ -1311,10 +1307,10 @@ pub +args+arm+arms+block+body+call+def+dos+each+end+estat+exps+fld+flds+fors+fun
       expect-next-reads.Learnt,
       look-ahead-reads.Asked,
       look-ahead-reads.Learnt,
-      close-return-reads.Asked,
-      close-return-reads.Learnt,
       exps-below t,
       exps.Post,
+      close-return-reads.Asked,
+      close-return-reads.Learnt,
     )
     (ret-at t)
     ret.Post
@@ -1324,40 +1320,22 @@ pub +args+arm+arms+block+body+call+def+dos+each+end+estat+exps+fld+flds+fors+fun
     (ret-returns t)
     (ret-look-ahead-requires t)
     (ret-enum-known-e-2 t)
-    (ret-add-close-return t)
-    (ret-close-return-requires t)
+    (ret-add-t26 t)
     (ret-enum-known-t t)
-    (ret-add-close-return-2 t)
-    (ret-close-return-requires-2 t)
-    (ret-add-close-return-3 t)
-    (ret-close-return-requires-3 t)
-    (ret-add-close-return-4 t)
-    (ret-close-return-requires-4 t)
-    (ret-add-close-return-5 t)
-    (ret-close-return-requires-5 t)
-    (ret-add-close-return-6 t)
-    (ret-close-return-requires-6 t)
+    (ret-add-t28 t)
+    (ret-add-t29 t)
+    (ret-add-t30 t)
+    (ret-add-t31 t)
+    (ret-add-t32 t)
     (ret-add-exps t)
     (ret-exps-requires t)
-    (ret-enum-known-e-3 t)
-    (ret-enum-known-f t)
-    (ret-close-return-requires-7 t)
+    (ret-enum-known-s t)
+    (ret-enum-known-s-2 t)
+    (ret-close-return-requires t)
     (ret-same-length t)
     (ret-returns-2 t)
     (ret-same-length-2 t)
-    (ret-returns-3 t)
-    (ret-same-length-3 t)
-    (ret-returns-4 t)
-    (ret-same-length-4 t)
-    (ret-returns-5 t)
-    (ret-same-length-5 t)
-    (ret-returns-6 t)
-    (ret-same-length-6 t)
-    (ret-returns-7 t)
-    (ret-same-length-7 t)
-    (ret-returns-8 t)
-    (ret-same-length-8 t)
-    (ret-returns-9 t))
+    (ret-returns-3 t))
     (λ t. set-lts.spec (
       targs-below t,
       targs.Post,
@@ -1698,10 +1676,10 @@ pub +args+arm+arms+block+body+call+def+dos+each+end+estat+exps+fld+flds+fors+fun
     (λ t. tails-lts.spec (
       look-ahead-reads.Asked,
       look-ahead-reads.Learnt,
-      get-binary-operator-reads.Asked,
-      get-binary-operator-reads.Learnt,
       binary-priority-reads.Asked,
       binary-priority-reads.Learnt,
+      get-binary-operator-reads.Asked,
+      get-binary-operator-reads.Learnt,
       tail-below t,
       tail.Post,
     )
@@ -1709,24 +1687,30 @@ pub +args+arm+arms+block+body+call+def+dos+each+end+estat+exps+fld+flds+fors+fun
     tails.Post
     tails-Inv-loop
     tails-μ-loop
-    (tails-loop-holds t)
     (tails-look-ahead-requires t)
     (tails-enum-known-d t)
-    (tails-same-length t)
     (tails-returns t)
     (tails-enum-known-t t)
+    (tails-binary-priority-requires t)
+    (tails-returns-2 t)
+    (tails-loop-holds t)
+    (tails-look-ahead-requires-2 t)
+    (tails-enum-known-d-2 t)
+    (tails-same-length t)
+    (tails-returns-3 t)
+    (tails-enum-known-t-2 t)
     (tails-get-binary-operator-requires t)
     (tails-enum-told t)
     (tails-same-length-2 t)
-    (tails-returns-2 t)
+    (tails-returns-4 t)
     (tails-enum-known-op t)
-    (tails-binary-priority-requires t)
+    (tails-binary-priority-requires-2 t)
     (tails-same-length-3 t)
-    (tails-returns-3 t)
+    (tails-returns-5 t)
     (tails-tail-requires t)
     (tails-enum-known-e t)
     (tails-same-length-4 t)
-    (tails-returns-4 t)
+    (tails-returns-6 t)
     (tails-enum-known-e-2 t)
     (tails-add-n t)
     (tails-loop-less t)

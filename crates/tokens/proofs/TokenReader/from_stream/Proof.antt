@@ -53,7 +53,7 @@ stayed = (stay-none-slice (0 ∷ []) tt (plain (λ _. u64)) yes, tt)
 
 -- the facts of the cursor
 starts : Is P.the-row start (P′.lowered start ∷ [])
-starts = LL.owes P.the-type P′.the-laws start ((refl, lit< tt), ((refl, lit< tt), (LL.owes N.the-type N′.the-laws (start .note) (refl, ((refl, lit< tt), ((refl, lit< tt), tt))), tt)))
+starts = LL.owes P.the-type P′.the-laws start ((refl, lit< tt), ((refl, lit< tt), (LL.owes N.the-type N′.the-laws (start .note) ((refl, lit< tt), ((refl, lit< tt), (refl, tt))), tt)))
 
 zero-fits : Fits w64 0
 zero-fits = record { fits = lit< tt }
@@ -92,10 +92,10 @@ module _ {M : Type 1} (𝓤 : URA M) (H : Heap 𝓤) (A : Atoms 𝓤) (W : Given
         qed W (raw (onEntry 𝓤 H A own.signature (κ, tt) (q, tt) (s, tt) at) ∷ []) ∵ enter ! C Λ code.function (v ∷ []) _ $
         alloc1 ! (λ l₀. alloc1 ! (λ l₁. alloc1 ! (λ l₂. alloc1 ! (λ l₃. alloc0 ! $ params1 ! $ pass1 ! (init ! 4 refl (shr-slice-lawful 𝓤 H A W (named 0) κ u64 .typed s (v ∷ []) p .0)) $ pass0 ! $
         -- [room for _3; …; room for _2; …; _1; …; room for _0; …]
-        assigns ! (agg ! (and-then ! (false-lit !) (and-then ! (lit ! tt) (and-then ! (lit ! tt) (no-more !))))) (from ! (stop !)) (init ! 2 refl (tt, (tt, (zero-fits, (zero-fits, tt))))) $
-        assigns ! (agg ! (and-then ! (lit ! tt) (and-then ! (lit ! tt) (and-then ! (load ! (from ! (stop !)) (look ! 2 refl)) (no-more !))))) (from ! (stop !)) (init ! 0 refl (tt, (zero-fits, (zero-fits, ((tt, (zero-fits, (zero-fits, tt))), tt))))) $
+        assigns ! (agg ! (and-then ! (lit ! tt) (and-then ! (lit ! tt) (and-then ! (false-lit !) (no-more !))))) (from ! (stop !)) (init ! 2 refl (tt, (zero-fits, (zero-fits, (tt, tt))))) $
+        assigns ! (agg ! (and-then ! (lit ! tt) (and-then ! (lit ! tt) (and-then ! (load ! (from ! (stop !)) (look ! 2 refl)) (no-more !))))) (from ! (stop !)) (init ! 0 refl (tt, (zero-fits, (zero-fits, ((zero-fits, (zero-fits, (tt, tt))), tt))))) $
         assigns ! (agg ! (and-then ! (load ! (from ! (stop !)) (look ! 4 refl)) (and-then ! (load ! (from ! (stop !)) (look ! 0 refl)) (no-more !)))) (from ! (stop !))
-        (init ! 6 refl (tt, (shr-slice-lawful 𝓤 H A W (named 0) κ u64 .typed s (v ∷ []) p .0 .1, ((zero-fits, (zero-fits, ((tt, (zero-fits, (zero-fits, tt))), tt))), tt)))) $
+        (init ! 6 refl (tt, (shr-slice-lawful 𝓤 H A W (named 0) κ u64 .typed s (v ∷ []) p .0 .1, ((zero-fits, (zero-fits, ((zero-fits, (zero-fits, (tt, tt))), tt))), tt)))) $
         returns ! (look ! 6 refl) $ forget ! 0 refl $ forget ! 2 refl $ forget ! 4 refl $ forget ! 6 refl $ move ! (6 ∷ 7 ∷ []) $ free1 ! $ move ! (4 ∷ 5 ∷ []) $ free1 ! $ move ! (2 ∷ 3 ∷ []) $ free1 ! $ free1 ! $ free0 ! $ by ! exits))))
 
 module _ {M : Type 1} (𝓤 : URA M) (H : Heap 𝓤) (A : Atoms 𝓤) (W : Given 𝓤 H A) (mem : Memory → SProp 𝓤) (run : Routine → Fun 𝓤) where
