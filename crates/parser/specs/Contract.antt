@@ -90,6 +90,12 @@ Suffixes s q low used more n n′ o k (Part·.Done c u v) = (member k first-suff
 Suffixes s q low used more n n′ o k Part·.Nothing = (member k first-suffix ≡ false) × (n′ ≡ n)
 Suffixes s q low used more n n′ o k (Part·.Fail e) = (member k first-suffix ≡ true) × (o ≡ fail e)
 
+-- a name that stands alone, or nothing, whatever comes
+abbrev pub Alone : List ℕ → Note → (low used more : ℕ) → List ℕ → List ℕ → Out → Part → Type 0
+Alone s q low used more n n′ o (Part·.Done c u v) = Fine s q low used more n n′ o c u 0 × (v ≡ 30)
+Alone s q low used more n n′ o Part·.Nothing = n′ ≡ n
+Alone s q low used more n n′ o (Part·.Fail e) = o ≡ fail e
+
 -- the reading of a production at a cursor, under a limit, where the expression statement that holds a target ends at `end`
 abbrev pub again : Reader
 again p m = fail (record { number = 0; line = 0; found = 0; expected = 0 })

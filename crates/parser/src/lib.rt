@@ -63,13 +63,14 @@ ghost use Rattle.operators.specs.Ranks.{ranks, code};
 ghost use Rattle.operators.specs.declared.Ranking.{Ranking};
 ghost use Rattle.tree.specs.Forest.{words};
 ghost use Rattle.grammar.specs.Member.{member};
+ghost use Rattle.grammar.specs.Grammar.{first-suffix};
 ghost use Rattle.grammar.specs.Term.{check, opening, empty, any, leaf, plus, opt, _⨾_, on};
 ghost use Rattle.grammar.specs.Reading.{wrap};
 ghost use Rattle.grammar.specs.Levels.{readers, chunk};
 ghost use Rattle.grammar.specs.Productions.{look, nameleaf, explist, retstat, block, parlist, funcbody, field, table, args, suffix, primary, suffixed, simple, head, tails};
 ghost use Rattle.grammar.specs.Productions.{ifstat, whilestat, dostat, forstat, repeatstat, functionstat, localfunction, localstat, label, breakstat, gotostat, exprstat};
 ghost use Rattle.parser.specs.Parts as P;
-ghost use Rattle.parser.specs.Contract.{Ready, Meeting, Meets, Sums, Ends, Suffixes, counts, begins, backs, Ordinary, under, says, kids, itself, stepped, counting, tagging, Closes, Calls};
+ghost use Rattle.parser.specs.Contract.{Ready, Meeting, Meets, Sums, Ends, Suffixes, Alone, counts, begins, backs, Ordinary, under, says, kids, itself, stepped, counting, tagging, Closes, Calls};
 ghost use Rattle.stream.specs.Formed.{Formed};
 ghost use lib.ListN.{length, replicate};
 ghost use Rattle.parser.specs.Answered.{Answered, Noted, refusing};
@@ -1479,6 +1480,48 @@ fn tail(
     }
 }
 
+// Whether a token of this kind begins a suffix.
+fn continues(kind: u64) -> bool
+    ensures { λ r. ⌜ r ≡ member kind first-suffix ⌝ }
+{
+    match kind {
+        DOT => true,
+        LEFT_BRACKET => true,
+        COLON => true,
+        LEFT_PAREN => true,
+        LEFT_BRACE => true,
+        STRING => true,
+        _ => false,
+    }
+}
+
+// A name that no suffix follows, as `pexp` reads it, without its calls; nothing where something else comes.
+fn lone(stream: &[u64], nodes: &mut [u64], c: Cursor, used: usize) -> Part
+    requires { ⌜ Ready (now stream) c used 2 ⌝ }
+    ensures { λ r. ⌜ ((k : Ranking) (h : ℕ) → Alone (now (stream .entry)) (c .note) (c .place + 1) used 0 (now (nodes .entry)) (now (nodes .exit)) (says (now (stream .entry)) k h suffixed c) r) ⌝ }
+{
+    match stream::reader::take_next(stream, c) {
+        Next::Fail(e) => Part::Fail(e),
+        Next::Took(t, d) => {
+            if t.kind != NAME {
+                return Part::Nothing;
+            }
+            let e = match stream::reader::look_ahead(stream, d, 0) {
+                Look::End(e) => e,
+                Look::Seen(n, e) => {
+                    if continues(n.kind) {
+                        return Part::Nothing;
+                    }
+                    e
+                }
+            };
+            tree::put(nodes, used + 1, 30, t.payload, 0, 1);
+            tree::put(nodes, used, 29, 0, 0, 2);
+            Part::Done(e, used + 2, 30)
+        }
+    }
+}
+
 // parse_simple_expression
 fn simp(
     stream: &[u64],
@@ -1515,13 +1558,17 @@ fn simp(
                         r
                     }
                 },
-                _ => {
-                    let e = d;
-                    match pexp(stream, nodes, ranking, e, used, g) {
-                        Sum::Fail(e) => Step::Fail(e),
-                        Sum::Done(e, u, _) => Step::Done(e, u),
+                _ => match lone(stream, nodes, d, used) {
+                    Part::Fail(e) => Step::Fail(e),
+                    Part::Done(e, u, _) => Step::Done(e, u),
+                    Part::Nothing => {
+                        let e = d;
+                        match pexp(stream, nodes, ranking, e, used, g) {
+                            Sum::Fail(e) => Step::Fail(e),
+                            Sum::Done(e, u, _) => Step::Done(e, u),
+                        }
                     }
-                }
+                },
             }
         }
     }

@@ -193,6 +193,7 @@ use Rattle.parser.proofs.is_target.Reads as is-target-reads
 use Rattle.parser.proofs.label.Reads as label-reads
 use Rattle.parser.proofs.leaf.Reads as leaf-reads
 use Rattle.parser.proofs.line_at.Reads as line-at-reads
+use Rattle.parser.proofs.lone.Reads as lone-reads
 use Rattle.parser.proofs.misfit.Reads as misfit-reads
 use Rattle.parser.proofs.name.Reads as name-reads
 use Rattle.parser.proofs.namelist.Reads as namelist-reads
@@ -244,7 +245,7 @@ use Rattle.parser.proofs.+args+arm+arms+block+body+call+def+dos+each+en
 use Rattle.parser.proofs.+args+arm+arms+block+body+call+def+dos+each+end+estat+exps+fld+flds+fors+fun+head+idx+ifs+item+key+lfun+list+loc+meth+named+num+pexp+prim+rep+ret+set+simp+stat+stats+sub+suf+tab+tail+tails+targs+upto+whiles.Proof.REP.{rep-expect-next-requires, rep-enum-known-d, rep-enum-known-e, rep-returns, rep-add-block, rep-block-requires, rep-enum-known-e-2, rep-enum-known-e-3, rep-expect-requires, rep-enum-known-e-4, rep-enum-known-f, rep-sub-requires, rep-enum-known-e-5, rep-enum-known-h, rep-close-requires, rep-same-length, rep-returns-2, rep-same-length-2, rep-returns-3, rep-same-length-3, rep-returns-4, rep-same-length-4, rep-returns-5}
 use Rattle.parser.proofs.+args+arm+arms+block+body+call+def+dos+each+end+estat+exps+fld+flds+fors+fun+head+idx+ifs+item+key+lfun+list+loc+meth+named+num+pexp+prim+rep+ret+set+simp+stat+stats+sub+suf+tab+tail+tails+targs+upto+whiles.Proof.RET.{ret-expect-next-requires, ret-enum-known-d, ret-enum-known-e, ret-returns, ret-look-ahead-requires, ret-enum-known-e-2, ret-add-t26, ret-enum-known-t, ret-add-t28, ret-add-t29, ret-add-t30, ret-add-t31, ret-add-t32, ret-add-exps, ret-exps-requires, ret-enum-known-s, ret-enum-known-s-2, ret-close-return-requires, ret-same-length, ret-returns-2, ret-same-length-2, ret-returns-3}
 use Rattle.parser.proofs.+args+arm+arms+block+body+call+def+dos+each+end+estat+exps+fld+flds+fors+fun+head+idx+ifs+item+key+lfun+list+loc+meth+named+num+pexp+prim+rep+ret+set+simp+stat+stats+sub+suf+tab+tail+tails+targs+upto+whiles.Proof.SET.{set-targs-requires, set-enum-known-e, set-enum-known-d, set-expect-requires, set-enum-known-e-2, set-enum-known-e-3, set-exps-requires, set-enum-known-e-4, set-enum-known-f, set-same-length, set-returns, set-same-length-2, set-returns-2, set-same-length-3, set-returns-3, set-same-length-4, set-returns-4}
-use Rattle.parser.proofs.+args+arm+arms+block+body+call+def+dos+each+end+estat+exps+fld+flds+fors+fun+head+idx+ifs+item+key+lfun+list+loc+meth+named+num+pexp+prim+rep+ret+set+simp+stat+stats+sub+suf+tab+tail+tails+targs+upto+whiles.Proof.SIMP.{simp-get-next-requires, simp-enum-known-e, simp-enum-known-t, simp-leaf-requires, simp-leaf-requires-2, simp-leaf-requires-3, simp-leaf-requires-4, simp-leaf-requires-5, simp-leaf-requires-6, simp-leaf-requires-7, simp-tab-requires, simp-take-next-requires, simp-enum-known-e-2, simp-enum-known-e-3, simp-def-requires, simp-pexp-requires, simp-enum-known-e-4, simp-enum-known-e-5, simp-returns, simp-same-length, simp-returns-2, simp-same-length-2, simp-returns-3, simp-same-length-3, simp-returns-4, simp-same-length-4, simp-returns-5, simp-same-length-5, simp-returns-6, simp-same-length-6, simp-returns-7, simp-same-length-7, simp-returns-8, simp-same-length-8, simp-returns-9, simp-returns-10, simp-same-length-9, simp-returns-11, simp-same-length-10, simp-returns-12, simp-same-length-11, simp-returns-13}
+use Rattle.parser.proofs.+args+arm+arms+block+body+call+def+dos+each+end+estat+exps+fld+flds+fors+fun+head+idx+ifs+item+key+lfun+list+loc+meth+named+num+pexp+prim+rep+ret+set+simp+stat+stats+sub+suf+tab+tail+tails+targs+upto+whiles.Proof.SIMP.{simp-get-next-requires, simp-enum-known-e, simp-enum-known-t, simp-leaf-requires, simp-leaf-requires-2, simp-leaf-requires-3, simp-leaf-requires-4, simp-leaf-requires-5, simp-leaf-requires-6, simp-leaf-requires-7, simp-tab-requires, simp-take-next-requires, simp-enum-known-e-2, simp-enum-known-e-3, simp-def-requires, simp-lone-requires, simp-enum-known-e-4, simp-enum-known-e-5, simp-enum-told, simp-pexp-requires, simp-enum-known-e-6, simp-enum-known-e-7, simp-returns, simp-same-length, simp-returns-2, simp-same-length-2, simp-returns-3, simp-same-length-3, simp-returns-4, simp-same-length-4, simp-returns-5, simp-same-length-5, simp-returns-6, simp-same-length-6, simp-returns-7, simp-same-length-7, simp-returns-8, simp-same-length-8, simp-returns-9, simp-returns-10, simp-same-length-9, simp-returns-11, simp-same-length-10, simp-returns-12, simp-same-length-11, simp-returns-13, simp-same-length-12, simp-returns-14, simp-same-length-13, simp-returns-15}
 use Rattle.parser.proofs.+args+arm+arms+block+body+call+def+dos+each+end+estat+exps+fld+flds+fors+fun+head+idx+ifs+item+key+lfun+list+loc+meth+named+num+pexp+prim+rep+ret+set+simp+stat+stats+sub+suf+tab+tail+tails+targs+upto+whiles.Proof.STAT.{stat-deep-requires, stat-returns, stat-get-next-requires, stat-enum-known-e, stat-enum-known-t, stat-sub-ifs, stat-ifs-requires, stat-sub-whiles, stat-whiles-requires, stat-sub-dos, stat-dos-requires, stat-sub-fors, stat-fors-requires, stat-sub-rep, stat-rep-requires, stat-sub-fun, stat-fun-requires, stat-check-ahead-requires, stat-sub-lfun, stat-lfun-requires, stat-sub-loc, stat-loc-requires, stat-label-requires, stat-stop-requires, stat-goto-requires, stat-sub-estat, stat-estat-requires, stat-returns-2, stat-same-length, stat-returns-3, stat-same-length-2, stat-returns-4, stat-same-length-3, stat-returns-5, stat-same-length-4, stat-returns-6, stat-same-length-5, stat-returns-7, stat-same-length-6, stat-returns-8, stat-same-length-7, stat-returns-9, stat-same-length-8, stat-returns-10, stat-same-length-9, stat-returns-11, stat-same-length-10, stat-returns-12, stat-same-length-11, stat-returns-13, stat-same-length-12, stat-returns-14}
 use Rattle.parser.proofs.+args+arm+arms+block+body+call+def+dos+each+end+estat+exps+fld+flds+fors+fun+head+idx+ifs+item+key+lfun+list+loc+meth+named+num+pexp+prim+rep+ret+set+simp+stat+stats+sub+suf+tab+tail+tails+targs+upto+whiles.Proof.STATS.{stats-Inv-loop, stats-μ-loop, stats-loop-holds, stats-look-ahead-requires, stats-enum-known-d, stats-same-length, stats-returns, stats-enum-known-t, stats-same-length-2, stats-returns-2, stats-same-length-3, stats-returns-3, stats-same-length-4, stats-returns-4, stats-same-length-5, stats-returns-5, stats-same-length-6, stats-returns-6, stats-take-next-requires, stats-enum-known-e, stats-same-length-7, stats-returns-7, stats-enum-known-e-2, stats-loop-less, stats-loop-again, stats-stat-requires, stats-enum-known-e-3, stats-same-length-8, stats-returns-8, stats-enum-known-e-4, stats-loop-less-2, stats-loop-again-2}
 use Rattle.parser.proofs.+args+arm+arms+block+body+call+def+dos+each+end+estat+exps+fld+flds+fors+fun+head+idx+ifs+item+key+lfun+list+loc+meth+named+num+pexp+prim+rep+ret+set+simp+stat+stats+sub+suf+tab+tail+tails+targs+upto+whiles.Proof.SUB.{sub-deep-requires, sub-returns, sub-begun-requires, sub-add-head, sub-sub-head, sub-head-requires, sub-enum-known-e, sub-enum-known-d, sub-sub-tails, sub-tails-requires, sub-enum-known-e-2, sub-enum-known-e-3, sub-back-requires, sub-close-requires, sub-same-length, sub-returns-2, sub-same-length-2, sub-returns-3, sub-same-length-3, sub-returns-4}
@@ -1374,6 +1375,8 @@ pub +args+arm+arms+block+body+call+def+dos+each+end+estat+exps+fld+flds+fors+fun
       take-next-reads.Learnt,
       def-below t,
       def.Post,
+      lone-reads.Asked,
+      lone-reads.Learnt,
       pexp-below t,
       pexp.Post,
     )
@@ -1394,9 +1397,13 @@ pub +args+arm+arms+block+body+call+def+dos+each+end+estat+exps+fld+flds+fors+fun
     (simp-enum-known-e-2 t)
     (simp-enum-known-e-3 t)
     (simp-def-requires t)
-    (simp-pexp-requires t)
+    (simp-lone-requires t)
     (simp-enum-known-e-4 t)
     (simp-enum-known-e-5 t)
+    (simp-enum-told t)
+    (simp-pexp-requires t)
+    (simp-enum-known-e-6 t)
+    (simp-enum-known-e-7 t)
     (simp-returns t)
     (simp-same-length t)
     (simp-returns-2 t)
@@ -1420,7 +1427,11 @@ pub +args+arm+arms+block+body+call+def+dos+each+end+estat+exps+fld+flds+fors+fun
     (simp-same-length-10 t)
     (simp-returns-12 t)
     (simp-same-length-11 t)
-    (simp-returns-13 t))
+    (simp-returns-13 t)
+    (simp-same-length-12 t)
+    (simp-returns-14 t)
+    (simp-same-length-13 t)
+    (simp-returns-15 t))
     (λ t. stat-lts.spec (
       deep-reads.Asked,
       deep-reads.Learnt,

@@ -7,6 +7,7 @@ use Rattle.parser.proofs.simp.Reads as simp
 use Rattle.parser.proofs.+args+arm+arms+block+body+call+def+dos+each+end+estat+exps+fld+flds+fors+fun+head+idx+ifs+item+key+lfun+list+loc+meth+named+num+pexp+prim+rep+ret+set+simp+stat+stats+sub+suf+tab+tail+tails+targs+upto+whiles.Lts-simp as simp-lts
 use Rattle.parser.proofs.tab.Reads as tab
 use Rattle.parser.proofs.leaf.Reads as leaf-reads
+use Rattle.parser.proofs.lone.Reads as lone-reads
 use Rattle.stream.proofs.reader.get_next.Reads as get-next-reads
 use Rattle.stream.proofs.reader.take_next.Reads as take-next-reads
 use Rattle.parser.proofs.+args+arm+arms+block+body+call+def+dos+each+end+estat+exps+fld+flds+fors+fun+head+idx+ifs+item+key+lfun+list+loc+meth+named+num+pexp+prim+rep+ret+set+simp+stat+stats+sub+suf+tab+tail+tails+targs+upto+whiles.{}
@@ -38,6 +39,8 @@ pub simp-get-next-requires : (t : ℕ) → simp-lts.Need-get-next-requires (
   take-next-reads.Learnt,
   def-below t,
   def.Post,
+  lone-reads.Asked,
+  lone-reads.Learnt,
   pexp-below t,
   pexp.Post,
 ) (simp-at t) Rattle.parser.proofs.simp.Reads.Post
@@ -54,6 +57,8 @@ pub simp-enum-known-e : (t : ℕ) → simp-lts.Need-enum-known-e (
   take-next-reads.Learnt,
   def-below t,
   def.Post,
+  lone-reads.Asked,
+  lone-reads.Learnt,
   pexp-below t,
   pexp.Post,
 ) (simp-at t) Rattle.parser.proofs.simp.Reads.Post
@@ -70,6 +75,8 @@ pub simp-enum-known-t : (t : ℕ) → simp-lts.Need-enum-known-t (
   take-next-reads.Learnt,
   def-below t,
   def.Post,
+  lone-reads.Asked,
+  lone-reads.Learnt,
   pexp-below t,
   pexp.Post,
 ) (simp-at t) Rattle.parser.proofs.simp.Reads.Post
@@ -86,6 +93,8 @@ pub simp-leaf-requires : (t : ℕ) → simp-lts.Need-leaf-requires (
   take-next-reads.Learnt,
   def-below t,
   def.Post,
+  lone-reads.Asked,
+  lone-reads.Learnt,
   pexp-below t,
   pexp.Post,
 ) (simp-at t) Rattle.parser.proofs.simp.Reads.Post
@@ -102,6 +111,8 @@ pub simp-leaf-requires-2 : (t : ℕ) → simp-lts.Need-leaf-requires-2 (
   take-next-reads.Learnt,
   def-below t,
   def.Post,
+  lone-reads.Asked,
+  lone-reads.Learnt,
   pexp-below t,
   pexp.Post,
 ) (simp-at t) Rattle.parser.proofs.simp.Reads.Post
@@ -118,6 +129,8 @@ pub simp-leaf-requires-3 : (t : ℕ) → simp-lts.Need-leaf-requires-3 (
   take-next-reads.Learnt,
   def-below t,
   def.Post,
+  lone-reads.Asked,
+  lone-reads.Learnt,
   pexp-below t,
   pexp.Post,
 ) (simp-at t) Rattle.parser.proofs.simp.Reads.Post
@@ -134,6 +147,8 @@ pub simp-leaf-requires-4 : (t : ℕ) → simp-lts.Need-leaf-requires-4 (
   take-next-reads.Learnt,
   def-below t,
   def.Post,
+  lone-reads.Asked,
+  lone-reads.Learnt,
   pexp-below t,
   pexp.Post,
 ) (simp-at t) Rattle.parser.proofs.simp.Reads.Post
@@ -150,6 +165,8 @@ pub simp-leaf-requires-5 : (t : ℕ) → simp-lts.Need-leaf-requires-5 (
   take-next-reads.Learnt,
   def-below t,
   def.Post,
+  lone-reads.Asked,
+  lone-reads.Learnt,
   pexp-below t,
   pexp.Post,
 ) (simp-at t) Rattle.parser.proofs.simp.Reads.Post
@@ -166,6 +183,8 @@ pub simp-leaf-requires-6 : (t : ℕ) → simp-lts.Need-leaf-requires-6 (
   take-next-reads.Learnt,
   def-below t,
   def.Post,
+  lone-reads.Asked,
+  lone-reads.Learnt,
   pexp-below t,
   pexp.Post,
 ) (simp-at t) Rattle.parser.proofs.simp.Reads.Post
@@ -182,6 +201,8 @@ pub simp-leaf-requires-7 : (t : ℕ) → simp-lts.Need-leaf-requires-7 (
   take-next-reads.Learnt,
   def-below t,
   def.Post,
+  lone-reads.Asked,
+  lone-reads.Learnt,
   pexp-below t,
   pexp.Post,
 ) (simp-at t) Rattle.parser.proofs.simp.Reads.Post
@@ -198,6 +219,8 @@ pub simp-tab-requires : (t : ℕ) → simp-lts.Need-tab-requires (
   take-next-reads.Learnt,
   def-below t,
   def.Post,
+  lone-reads.Asked,
+  lone-reads.Learnt,
   pexp-below t,
   pexp.Post,
 ) (simp-at t) Rattle.parser.proofs.simp.Reads.Post
@@ -214,6 +237,8 @@ pub simp-take-next-requires : (t : ℕ) → simp-lts.Need-take-next-requires (
   take-next-reads.Learnt,
   def-below t,
   def.Post,
+  lone-reads.Asked,
+  lone-reads.Learnt,
   pexp-below t,
   pexp.Post,
 ) (simp-at t) Rattle.parser.proofs.simp.Reads.Post
@@ -230,6 +255,8 @@ pub simp-enum-known-e-2 : (t : ℕ) → simp-lts.Need-enum-known-e-2 (
   take-next-reads.Learnt,
   def-below t,
   def.Post,
+  lone-reads.Asked,
+  lone-reads.Learnt,
   pexp-below t,
   pexp.Post,
 ) (simp-at t) Rattle.parser.proofs.simp.Reads.Post
@@ -246,6 +273,8 @@ pub simp-enum-known-e-3 : (t : ℕ) → simp-lts.Need-enum-known-e-3 (
   take-next-reads.Learnt,
   def-below t,
   def.Post,
+  lone-reads.Asked,
+  lone-reads.Learnt,
   pexp-below t,
   pexp.Post,
 ) (simp-at t) Rattle.parser.proofs.simp.Reads.Post
@@ -262,12 +291,14 @@ pub simp-def-requires : (t : ℕ) → simp-lts.Need-def-requires (
   take-next-reads.Learnt,
   def-below t,
   def.Post,
+  lone-reads.Asked,
+  lone-reads.Learnt,
   pexp-below t,
   pexp.Post,
 ) (simp-at t) Rattle.parser.proofs.simp.Reads.Post
 simp-def-requires t c κs = (omega (arith, (c .before .before .before .before .before .before .before .before .before .before .before .before .pre) .0), ready-after (((c .before .before .before .before .before .before .before .before .before .before .before .before .pre) .1) .formed) (took-next ((c .before .before .before .before .before .before .before .before .before .before .before .before .args) .stream .now) ((c .before .before .before .before .before .before .before .t) .given .0 .1 .0) ((sym ((c .before .before .before .before .take-next) .ensures)) ∙ (c .before .before .e3) .given .1)) (omega (arith, ((c .before .before .before .before .before .before .before .before .before .before .before .before .pre) .1) .room, (get-place ((c .before .before .before .before .before .before .before .before .before .before .before .before .args) .stream .now) ((c .before .before .before .before .before .before .before .before .before .before .before .before .args) .c) (sym ((c .before .before .before .before .before .before .before .before .before .get-next) .ensures) ∙ (c .before .before .before .before .before .before .before .t) .given .1)))))
 
-pub simp-pexp-requires : (t : ℕ) → simp-lts.Need-pexp-requires (
+pub simp-lone-requires : (t : ℕ) → simp-lts.Need-lone-requires (
   get-next-reads.Asked,
   get-next-reads.Learnt,
   leaf-reads.Asked,
@@ -278,10 +309,12 @@ pub simp-pexp-requires : (t : ℕ) → simp-lts.Need-pexp-requires (
   take-next-reads.Learnt,
   def-below t,
   def.Post,
+  lone-reads.Asked,
+  lone-reads.Learnt,
   pexp-below t,
   pexp.Post,
 ) (simp-at t) Rattle.parser.proofs.simp.Reads.Post
-simp-pexp-requires t c κs = (omega (arith, (c .before .before .before .before .before .before .before .before .pre) .0), record { formed = ((c .before .before .before .before .before .before .before .before .pre) .1) .formed; at = omega (arith, ((c .before .before .before .before .before .before .before .before .pre) .1) .at, (get-place ((c .before .before .before .before .before .before .before .before .args) .stream .now) ((c .before .before .before .before .before .before .before .before .args) .c) (sym ((c .before .before .before .before .before .get-next) .ensures) ∙ (c .before .before .before .t) .given .1))); room = omega (arith, ((c .before .before .before .before .before .before .before .before .pre) .1) .room, (get-place ((c .before .before .before .before .before .before .before .before .args) .stream .now) ((c .before .before .before .before .before .before .before .before .args) .c) (sym ((c .before .before .before .before .before .get-next) .ensures) ∙ (c .before .before .before .t) .given .1))) })
+simp-lone-requires t c κs = record { formed = ((c .before .before .before .before .before .before .before .before .pre) .1) .formed; at = omega (arith, ((c .before .before .before .before .before .before .before .before .pre) .1) .at, (get-place ((c .before .before .before .before .before .before .before .before .args) .stream .now) ((c .before .before .before .before .before .before .before .before .args) .c) (sym ((c .before .before .before .before .before .get-next) .ensures) ∙ (c .before .before .before .t) .given .1))); room = omega (arith, ((c .before .before .before .before .before .before .before .before .pre) .1) .room, (get-place ((c .before .before .before .before .before .before .before .before .args) .stream .now) ((c .before .before .before .before .before .before .before .before .args) .c) (sym ((c .before .before .before .before .before .get-next) .ensures) ∙ (c .before .before .before .t) .given .1))) }
 
 pub simp-enum-known-e-4 : (t : ℕ) → simp-lts.Need-enum-known-e-4 (
   get-next-reads.Asked,
@@ -294,6 +327,8 @@ pub simp-enum-known-e-4 : (t : ℕ) → simp-lts.Need-enum-known-e-4 (
   take-next-reads.Learnt,
   def-below t,
   def.Post,
+  lone-reads.Asked,
+  lone-reads.Learnt,
   pexp-below t,
   pexp.Post,
 ) (simp-at t) Rattle.parser.proofs.simp.Reads.Post
@@ -310,10 +345,84 @@ pub simp-enum-known-e-5 : (t : ℕ) → simp-lts.Need-enum-known-e-5 (
   take-next-reads.Learnt,
   def-below t,
   def.Post,
+  lone-reads.Asked,
+  lone-reads.Learnt,
   pexp-below t,
   pexp.Post,
 ) (simp-at t) Rattle.parser.proofs.simp.Reads.Post
 simp-enum-known-e-5 t c = search needs
+
+pub simp-enum-told : (t : ℕ) → simp-lts.Need-enum-told (
+  get-next-reads.Asked,
+  get-next-reads.Learnt,
+  leaf-reads.Asked,
+  leaf-reads.Learnt,
+  tab-below t,
+  tab.Post,
+  take-next-reads.Asked,
+  take-next-reads.Learnt,
+  def-below t,
+  def.Post,
+  lone-reads.Asked,
+  lone-reads.Learnt,
+  pexp-below t,
+  pexp.Post,
+) (simp-at t) Rattle.parser.proofs.simp.Reads.Post
+simp-enum-told t c = search needs
+
+pub simp-pexp-requires : (t : ℕ) → simp-lts.Need-pexp-requires (
+  get-next-reads.Asked,
+  get-next-reads.Learnt,
+  leaf-reads.Asked,
+  leaf-reads.Learnt,
+  tab-below t,
+  tab.Post,
+  take-next-reads.Asked,
+  take-next-reads.Learnt,
+  def-below t,
+  def.Post,
+  lone-reads.Asked,
+  lone-reads.Learnt,
+  pexp-below t,
+  pexp.Post,
+) (simp-at t) Rattle.parser.proofs.simp.Reads.Post
+simp-pexp-requires t c κs = (omega (arith, (c .before .before .before .before .before .before .before .before .before .before .before .before .before .before .pre) .0), record { formed = ((c .before .before .before .before .before .before .before .before .before .before .before .before .before .before .pre) .1) .formed; at = omega (arith, ((c .before .before .before .before .before .before .before .before .before .before .before .before .before .before .pre) .1) .at, (get-place ((c .before .before .before .before .before .before .before .before .before .before .before .before .before .before .args) .stream .now) ((c .before .before .before .before .before .before .before .before .before .before .before .before .before .before .args) .c) (sym ((c .before .before .before .before .before .before .before .before .before .before .before .get-next) .ensures) ∙ (c .before .before .before .before .before .before .before .before .before .t) .given .1))); room = omega (arith, ((c .before .before .before .before .before .before .before .before .before .before .before .before .before .before .pre) .1) .room, (get-place ((c .before .before .before .before .before .before .before .before .before .before .before .before .before .before .args) .stream .now) ((c .before .before .before .before .before .before .before .before .before .before .before .before .before .before .args) .c) (sym ((c .before .before .before .before .before .before .before .before .before .before .before .get-next) .ensures) ∙ (c .before .before .before .before .before .before .before .before .before .t) .given .1))) })
+
+pub simp-enum-known-e-6 : (t : ℕ) → simp-lts.Need-enum-known-e-6 (
+  get-next-reads.Asked,
+  get-next-reads.Learnt,
+  leaf-reads.Asked,
+  leaf-reads.Learnt,
+  tab-below t,
+  tab.Post,
+  take-next-reads.Asked,
+  take-next-reads.Learnt,
+  def-below t,
+  def.Post,
+  lone-reads.Asked,
+  lone-reads.Learnt,
+  pexp-below t,
+  pexp.Post,
+) (simp-at t) Rattle.parser.proofs.simp.Reads.Post
+simp-enum-known-e-6 t c = search needs
+
+pub simp-enum-known-e-7 : (t : ℕ) → simp-lts.Need-enum-known-e-7 (
+  get-next-reads.Asked,
+  get-next-reads.Learnt,
+  leaf-reads.Asked,
+  leaf-reads.Learnt,
+  tab-below t,
+  tab.Post,
+  take-next-reads.Asked,
+  take-next-reads.Learnt,
+  def-below t,
+  def.Post,
+  lone-reads.Asked,
+  lone-reads.Learnt,
+  pexp-below t,
+  pexp.Post,
+) (simp-at t) Rattle.parser.proofs.simp.Reads.Post
+simp-enum-known-e-7 t c = search needs
 
 pub simp-returns : (t : ℕ) → simp-lts.Need-returns (
   get-next-reads.Asked,
@@ -326,6 +435,8 @@ pub simp-returns : (t : ℕ) → simp-lts.Need-returns (
   take-next-reads.Learnt,
   def-below t,
   def.Post,
+  lone-reads.Asked,
+  lone-reads.Learnt,
   pexp-below t,
   pexp.Post,
 ) (simp-at t) Rattle.parser.proofs.simp.Reads.Post
@@ -343,6 +454,8 @@ pub simp-same-length : (t : ℕ) → simp-lts.Need-same-length (
   take-next-reads.Learnt,
   def-below t,
   def.Post,
+  lone-reads.Asked,
+  lone-reads.Learnt,
   pexp-below t,
   pexp.Post,
 ) (simp-at t) Rattle.parser.proofs.simp.Reads.Post
@@ -359,6 +472,8 @@ pub simp-returns-2 : (t : ℕ) → simp-lts.Need-returns-2 (
   take-next-reads.Learnt,
   def-below t,
   def.Post,
+  lone-reads.Asked,
+  lone-reads.Learnt,
   pexp-below t,
   pexp.Post,
 ) (simp-at t) Rattle.parser.proofs.simp.Reads.Post
@@ -376,6 +491,8 @@ pub simp-same-length-2 : (t : ℕ) → simp-lts.Need-same-length-2 (
   take-next-reads.Learnt,
   def-below t,
   def.Post,
+  lone-reads.Asked,
+  lone-reads.Learnt,
   pexp-below t,
   pexp.Post,
 ) (simp-at t) Rattle.parser.proofs.simp.Reads.Post
@@ -392,6 +509,8 @@ pub simp-returns-3 : (t : ℕ) → simp-lts.Need-returns-3 (
   take-next-reads.Learnt,
   def-below t,
   def.Post,
+  lone-reads.Asked,
+  lone-reads.Learnt,
   pexp-below t,
   pexp.Post,
 ) (simp-at t) Rattle.parser.proofs.simp.Reads.Post
@@ -409,6 +528,8 @@ pub simp-same-length-3 : (t : ℕ) → simp-lts.Need-same-length-3 (
   take-next-reads.Learnt,
   def-below t,
   def.Post,
+  lone-reads.Asked,
+  lone-reads.Learnt,
   pexp-below t,
   pexp.Post,
 ) (simp-at t) Rattle.parser.proofs.simp.Reads.Post
@@ -425,6 +546,8 @@ pub simp-returns-4 : (t : ℕ) → simp-lts.Need-returns-4 (
   take-next-reads.Learnt,
   def-below t,
   def.Post,
+  lone-reads.Asked,
+  lone-reads.Learnt,
   pexp-below t,
   pexp.Post,
 ) (simp-at t) Rattle.parser.proofs.simp.Reads.Post
@@ -442,6 +565,8 @@ pub simp-same-length-4 : (t : ℕ) → simp-lts.Need-same-length-4 (
   take-next-reads.Learnt,
   def-below t,
   def.Post,
+  lone-reads.Asked,
+  lone-reads.Learnt,
   pexp-below t,
   pexp.Post,
 ) (simp-at t) Rattle.parser.proofs.simp.Reads.Post
@@ -458,6 +583,8 @@ pub simp-returns-5 : (t : ℕ) → simp-lts.Need-returns-5 (
   take-next-reads.Learnt,
   def-below t,
   def.Post,
+  lone-reads.Asked,
+  lone-reads.Learnt,
   pexp-below t,
   pexp.Post,
 ) (simp-at t) Rattle.parser.proofs.simp.Reads.Post
@@ -475,6 +602,8 @@ pub simp-same-length-5 : (t : ℕ) → simp-lts.Need-same-length-5 (
   take-next-reads.Learnt,
   def-below t,
   def.Post,
+  lone-reads.Asked,
+  lone-reads.Learnt,
   pexp-below t,
   pexp.Post,
 ) (simp-at t) Rattle.parser.proofs.simp.Reads.Post
@@ -491,6 +620,8 @@ pub simp-returns-6 : (t : ℕ) → simp-lts.Need-returns-6 (
   take-next-reads.Learnt,
   def-below t,
   def.Post,
+  lone-reads.Asked,
+  lone-reads.Learnt,
   pexp-below t,
   pexp.Post,
 ) (simp-at t) Rattle.parser.proofs.simp.Reads.Post
@@ -508,6 +639,8 @@ pub simp-same-length-6 : (t : ℕ) → simp-lts.Need-same-length-6 (
   take-next-reads.Learnt,
   def-below t,
   def.Post,
+  lone-reads.Asked,
+  lone-reads.Learnt,
   pexp-below t,
   pexp.Post,
 ) (simp-at t) Rattle.parser.proofs.simp.Reads.Post
@@ -524,6 +657,8 @@ pub simp-returns-7 : (t : ℕ) → simp-lts.Need-returns-7 (
   take-next-reads.Learnt,
   def-below t,
   def.Post,
+  lone-reads.Asked,
+  lone-reads.Learnt,
   pexp-below t,
   pexp.Post,
 ) (simp-at t) Rattle.parser.proofs.simp.Reads.Post
@@ -541,6 +676,8 @@ pub simp-same-length-7 : (t : ℕ) → simp-lts.Need-same-length-7 (
   take-next-reads.Learnt,
   def-below t,
   def.Post,
+  lone-reads.Asked,
+  lone-reads.Learnt,
   pexp-below t,
   pexp.Post,
 ) (simp-at t) Rattle.parser.proofs.simp.Reads.Post
@@ -557,6 +694,8 @@ pub simp-returns-8 : (t : ℕ) → simp-lts.Need-returns-8 (
   take-next-reads.Learnt,
   def-below t,
   def.Post,
+  lone-reads.Asked,
+  lone-reads.Learnt,
   pexp-below t,
   pexp.Post,
 ) (simp-at t) Rattle.parser.proofs.simp.Reads.Post
@@ -574,6 +713,8 @@ pub simp-same-length-8 : (t : ℕ) → simp-lts.Need-same-length-8 (
   take-next-reads.Learnt,
   def-below t,
   def.Post,
+  lone-reads.Asked,
+  lone-reads.Learnt,
   pexp-below t,
   pexp.Post,
 ) (simp-at t) Rattle.parser.proofs.simp.Reads.Post
@@ -590,6 +731,8 @@ pub simp-returns-9 : (t : ℕ) → simp-lts.Need-returns-9 (
   take-next-reads.Learnt,
   def-below t,
   def.Post,
+  lone-reads.Asked,
+  lone-reads.Learnt,
   pexp-below t,
   pexp.Post,
 ) (simp-at t) Rattle.parser.proofs.simp.Reads.Post
@@ -607,6 +750,8 @@ pub simp-returns-10 : (t : ℕ) → simp-lts.Need-returns-10 (
   take-next-reads.Learnt,
   def-below t,
   def.Post,
+  lone-reads.Asked,
+  lone-reads.Learnt,
   pexp-below t,
   pexp.Post,
 ) (simp-at t) Rattle.parser.proofs.simp.Reads.Post
@@ -624,6 +769,8 @@ pub simp-same-length-9 : (t : ℕ) → simp-lts.Need-same-length-9 (
   take-next-reads.Learnt,
   def-below t,
   def.Post,
+  lone-reads.Asked,
+  lone-reads.Learnt,
   pexp-below t,
   pexp.Post,
 ) (simp-at t) Rattle.parser.proofs.simp.Reads.Post
@@ -640,6 +787,8 @@ pub simp-returns-11 : (t : ℕ) → simp-lts.Need-returns-11 (
   take-next-reads.Learnt,
   def-below t,
   def.Post,
+  lone-reads.Asked,
+  lone-reads.Learnt,
   pexp-below t,
   pexp.Post,
 ) (simp-at t) Rattle.parser.proofs.simp.Reads.Post
@@ -659,10 +808,12 @@ pub simp-same-length-10 : (t : ℕ) → simp-lts.Need-same-length-10 (
   take-next-reads.Learnt,
   def-below t,
   def.Post,
+  lone-reads.Asked,
+  lone-reads.Learnt,
   pexp-below t,
   pexp.Post,
 ) (simp-at t) Rattle.parser.proofs.simp.Reads.Post
-simp-same-length-10 t c = (c .before .before .before .before .before .pexp) .kept .1 .0
+simp-same-length-10 t c = (c .before .before .before .before .before .lone) .kept .1 .0
 
 pub simp-returns-12 : (t : ℕ) → simp-lts.Need-returns-12 (
   get-next-reads.Asked,
@@ -675,12 +826,14 @@ pub simp-returns-12 : (t : ℕ) → simp-lts.Need-returns-12 (
   take-next-reads.Learnt,
   def-below t,
   def.Post,
+  lone-reads.Asked,
+  lone-reads.Learnt,
   pexp-below t,
   pexp.Post,
 ) (simp-at t) Rattle.parser.proofs.simp.Reads.Post
 unfolding simple′
 simp-returns-12 t c =
-    let y = rw ((c .before .e4) .given .1) at ((c .before .before .before .before .before .pexp) .ensures) in
+    let y = rw ((c .before .e4) .given .1) at ((c .before .before .before .before .before .lone) .ensures ((c .before .before .before .before .before .before .before .before .before .before .before .before .before .before .args) .ranking) ((c .before .before .before .before .before .before .before .before .before .before .before .before .before .before .args) .g)) in
     (by-others ((c .before .before .before .before .before .before .before .before .before .before .before .before .before .before .args) .stream .now) (ranks ((c .before .before .before .before .before .before .before .before .before .before .before .before .before .before .args) .ranking)) 0 (readers ((c .before .before .before .before .before .before .before .before .before .before .before .before .before .before .args) .stream .now) (ranks ((c .before .before .before .before .before .before .before .before .before .before .before .before .before .before .args) .ranking)) ((c .before .before .before .before .before .before .before .before .before .before .before .before .before .before .args) .g)) (hold 0 0 none) again ((c .before .before .before .before .before .before .before .before .before .before .before .before .before .before .args) .c) (56, any ⨾ leaf 21) ((55, any ⨾ leaf 20) ∷ (57, any ⨾ leaf 22) ∷ (12, any ⨾ leaf 23) ∷ (19, any ⨾ leaf 24) ∷ (5, any ⨾ leaf 25) ∷ (36, any ⨾ leaf 26) ∷ (53, table′) ∷ (7, any ⨾ funcbody) ∷ []) suffixed′ (sym ((c .before .before .before .before .before .before .before .before .before .before .before .get-next) .ensures) ∙ (c .before .before .before .before .before .before .before .before .before .t) .given .1) ((c .before .before .before .before .before .before .before .match2) .rest .0 .0 .0 .0 .0 .0 .0 .0 .1) ((c .before .before .before .before .before .before .before .match2) .rest .0 .0 .0 .0 .0 .0 .0 .1) ((c .before .before .before .before .before .before .before .match2) .rest .0 .0 .0 .0 .0 .0 .1) ((c .before .before .before .before .before .before .before .match2) .rest .0 .0 .0 .0 .0 .1) ((c .before .before .before .before .before .before .before .match2) .rest .0 .0 .0 .0 .1) ((c .before .before .before .before .before .before .before .match2) .rest .0 .0 .0 .1) ((c .before .before .before .before .before .before .before .match2) .rest .0 .0 .1) ((c .before .before .before .before .before .before .before .match2) .rest .0 .1) ((c .before .before .before .before .before .before .before .match2) .rest .1)) ∙ y
 
 pub simp-same-length-11 : (t : ℕ) → simp-lts.Need-same-length-11 (
@@ -694,10 +847,12 @@ pub simp-same-length-11 : (t : ℕ) → simp-lts.Need-same-length-11 (
   take-next-reads.Learnt,
   def-below t,
   def.Post,
+  lone-reads.Asked,
+  lone-reads.Learnt,
   pexp-below t,
   pexp.Post,
 ) (simp-at t) Rattle.parser.proofs.simp.Reads.Post
-simp-same-length-11 t c = (c .before .before .before .before .before .pexp) .kept .1 .0
+simp-same-length-11 t c = (c .before .before .before .before .before .lone) .kept .1 .0
 
 pub simp-returns-13 : (t : ℕ) → simp-lts.Need-returns-13 (
   get-next-reads.Asked,
@@ -710,10 +865,91 @@ pub simp-returns-13 : (t : ℕ) → simp-lts.Need-returns-13 (
   take-next-reads.Learnt,
   def-below t,
   def.Post,
+  lone-reads.Asked,
+  lone-reads.Learnt,
   pexp-below t,
   pexp.Post,
 ) (simp-at t) Rattle.parser.proofs.simp.Reads.Post
 unfolding simple′
 simp-returns-13 t c =
-    let y = (rw ((c .before .e5) .given .1) at ((c .before .before .before .before .before .pexp) .ensures)) .0 in
+    let y = (rw ((c .before .e5) .given .1) at ((c .before .before .before .before .before .lone) .ensures ((c .before .before .before .before .before .before .before .before .before .before .before .before .before .before .args) .ranking) ((c .before .before .before .before .before .before .before .before .before .before .before .before .before .before .args) .g))) .0 in
     lower (((c .before .before .before .before .before .before .before .before .before .before .before .before .before .before .args) .c) .place + 1) (alter (by-others ((c .before .before .before .before .before .before .before .before .before .before .before .before .before .before .args) .stream .now) (ranks ((c .before .before .before .before .before .before .before .before .before .before .before .before .before .before .args) .ranking)) 0 (readers ((c .before .before .before .before .before .before .before .before .before .before .before .before .before .before .args) .stream .now) (ranks ((c .before .before .before .before .before .before .before .before .before .before .before .before .before .before .args) .ranking)) ((c .before .before .before .before .before .before .before .before .before .before .before .before .before .before .args) .g)) (hold 0 0 none) again ((c .before .before .before .before .before .before .before .before .before .before .before .before .before .before .args) .c) (56, any ⨾ leaf 21) ((55, any ⨾ leaf 20) ∷ (57, any ⨾ leaf 22) ∷ (12, any ⨾ leaf 23) ∷ (19, any ⨾ leaf 24) ∷ (5, any ⨾ leaf 25) ∷ (36, any ⨾ leaf 26) ∷ (53, table′) ∷ (7, any ⨾ funcbody) ∷ []) suffixed′ (sym ((c .before .before .before .before .before .before .before .before .before .before .before .get-next) .ensures) ∙ (c .before .before .before .before .before .before .before .before .before .t) .given .1) ((c .before .before .before .before .before .before .before .match2) .rest .0 .0 .0 .0 .0 .0 .0 .0 .1) ((c .before .before .before .before .before .before .before .match2) .rest .0 .0 .0 .0 .0 .0 .0 .1) ((c .before .before .before .before .before .before .before .match2) .rest .0 .0 .0 .0 .0 .0 .1) ((c .before .before .before .before .before .before .before .match2) .rest .0 .0 .0 .0 .0 .1) ((c .before .before .before .before .before .before .before .match2) .rest .0 .0 .0 .0 .1) ((c .before .before .before .before .before .before .before .match2) .rest .0 .0 .0 .1) ((c .before .before .before .before .before .before .before .match2) .rest .0 .0 .1) ((c .before .before .before .before .before .before .before .match2) .rest .0 .1) ((c .before .before .before .before .before .before .before .match2) .rest .1)) (renoted (get-note ((c .before .before .before .before .before .before .before .before .before .before .before .before .before .before .args) .stream .now) ((c .before .before .before .before .before .before .before .before .before .before .before .before .before .before .args) .c) (sym ((c .before .before .before .before .before .before .before .before .before .before .before .get-next) .ensures) ∙ (c .before .before .before .before .before .before .before .before .before .t) .given .1)) y)) (omega (arith, y .later, (get-place ((c .before .before .before .before .before .before .before .before .before .before .before .before .before .before .args) .stream .now) ((c .before .before .before .before .before .before .before .before .before .before .before .before .before .before .args) .c) (sym ((c .before .before .before .before .before .before .before .before .before .before .before .get-next) .ensures) ∙ (c .before .before .before .before .before .before .before .before .before .t) .given .1))))
+
+pub simp-same-length-12 : (t : ℕ) → simp-lts.Need-same-length-12 (
+  get-next-reads.Asked,
+  get-next-reads.Learnt,
+  leaf-reads.Asked,
+  leaf-reads.Learnt,
+  tab-below t,
+  tab.Post,
+  take-next-reads.Asked,
+  take-next-reads.Learnt,
+  def-below t,
+  def.Post,
+  lone-reads.Asked,
+  lone-reads.Learnt,
+  pexp-below t,
+  pexp.Post,
+) (simp-at t) Rattle.parser.proofs.simp.Reads.Post
+simp-same-length-12 t c = (c .before .before .before .before .before .pexp) .kept .1 .0 ∙ (c .before .before .before .before .before .before .before .before .before .before .before .lone) .kept .1 .0
+
+pub simp-returns-14 : (t : ℕ) → simp-lts.Need-returns-14 (
+  get-next-reads.Asked,
+  get-next-reads.Learnt,
+  leaf-reads.Asked,
+  leaf-reads.Learnt,
+  tab-below t,
+  tab.Post,
+  take-next-reads.Asked,
+  take-next-reads.Learnt,
+  def-below t,
+  def.Post,
+  lone-reads.Asked,
+  lone-reads.Learnt,
+  pexp-below t,
+  pexp.Post,
+) (simp-at t) Rattle.parser.proofs.simp.Reads.Post
+unfolding simple′
+simp-returns-14 t c =
+    let y = rw ((c .before .e6) .given .1) at ((c .before .before .before .before .before .pexp) .ensures) in
+    (by-others ((c .before .before .before .before .before .before .before .before .before .before .before .before .before .before .before .before .before .before .before .before .args) .stream .now) (ranks ((c .before .before .before .before .before .before .before .before .before .before .before .before .before .before .before .before .before .before .before .before .args) .ranking)) 0 (readers ((c .before .before .before .before .before .before .before .before .before .before .before .before .before .before .before .before .before .before .before .before .args) .stream .now) (ranks ((c .before .before .before .before .before .before .before .before .before .before .before .before .before .before .before .before .before .before .before .before .args) .ranking)) ((c .before .before .before .before .before .before .before .before .before .before .before .before .before .before .before .before .before .before .before .before .args) .g)) (hold 0 0 none) again ((c .before .before .before .before .before .before .before .before .before .before .before .before .before .before .before .before .before .before .before .before .args) .c) (56, any ⨾ leaf 21) ((55, any ⨾ leaf 20) ∷ (57, any ⨾ leaf 22) ∷ (12, any ⨾ leaf 23) ∷ (19, any ⨾ leaf 24) ∷ (5, any ⨾ leaf 25) ∷ (36, any ⨾ leaf 26) ∷ (53, table′) ∷ (7, any ⨾ funcbody) ∷ []) suffixed′ (sym ((c .before .before .before .before .before .before .before .before .before .before .before .before .before .before .before .before .before .get-next) .ensures) ∙ (c .before .before .before .before .before .before .before .before .before .before .before .before .before .before .before .t) .given .1) ((c .before .before .before .before .before .before .before .before .before .before .before .before .before .match2) .rest .0 .0 .0 .0 .0 .0 .0 .0 .1) ((c .before .before .before .before .before .before .before .before .before .before .before .before .before .match2) .rest .0 .0 .0 .0 .0 .0 .0 .1) ((c .before .before .before .before .before .before .before .before .before .before .before .before .before .match2) .rest .0 .0 .0 .0 .0 .0 .1) ((c .before .before .before .before .before .before .before .before .before .before .before .before .before .match2) .rest .0 .0 .0 .0 .0 .1) ((c .before .before .before .before .before .before .before .before .before .before .before .before .before .match2) .rest .0 .0 .0 .0 .1) ((c .before .before .before .before .before .before .before .before .before .before .before .before .before .match2) .rest .0 .0 .0 .1) ((c .before .before .before .before .before .before .before .before .before .before .before .before .before .match2) .rest .0 .0 .1) ((c .before .before .before .before .before .before .before .before .before .before .before .before .before .match2) .rest .0 .1) ((c .before .before .before .before .before .before .before .before .before .before .before .before .before .match2) .rest .1)) ∙ y
+
+pub simp-same-length-13 : (t : ℕ) → simp-lts.Need-same-length-13 (
+  get-next-reads.Asked,
+  get-next-reads.Learnt,
+  leaf-reads.Asked,
+  leaf-reads.Learnt,
+  tab-below t,
+  tab.Post,
+  take-next-reads.Asked,
+  take-next-reads.Learnt,
+  def-below t,
+  def.Post,
+  lone-reads.Asked,
+  lone-reads.Learnt,
+  pexp-below t,
+  pexp.Post,
+) (simp-at t) Rattle.parser.proofs.simp.Reads.Post
+simp-same-length-13 t c = (c .before .before .before .before .before .pexp) .kept .1 .0 ∙ (c .before .before .before .before .before .before .before .before .before .before .before .lone) .kept .1 .0
+
+pub simp-returns-15 : (t : ℕ) → simp-lts.Need-returns-15 (
+  get-next-reads.Asked,
+  get-next-reads.Learnt,
+  leaf-reads.Asked,
+  leaf-reads.Learnt,
+  tab-below t,
+  tab.Post,
+  take-next-reads.Asked,
+  take-next-reads.Learnt,
+  def-below t,
+  def.Post,
+  lone-reads.Asked,
+  lone-reads.Learnt,
+  pexp-below t,
+  pexp.Post,
+) (simp-at t) Rattle.parser.proofs.simp.Reads.Post
+unfolding simple′
+simp-returns-15 t c =
+    let n = rw ((c .before .before .before .before .before .before .before .enum-told) .given .1) at ((c .before .before .before .before .before .before .before .before .before .before .before .lone) .ensures ((c .before .before .before .before .before .before .before .before .before .before .before .before .before .before .before .before .before .before .before .before .args) .ranking) ((c .before .before .before .before .before .before .before .before .before .before .before .before .before .before .before .before .before .before .before .before .args) .g)) in
+    let y = rw n at ((rw ((c .before .e7) .given .1) at ((c .before .before .before .before .before .pexp) .ensures)) .0) in
+    lower (((c .before .before .before .before .before .before .before .before .before .before .before .before .before .before .before .before .before .before .before .before .args) .c) .place + 1) (alter (by-others ((c .before .before .before .before .before .before .before .before .before .before .before .before .before .before .before .before .before .before .before .before .args) .stream .now) (ranks ((c .before .before .before .before .before .before .before .before .before .before .before .before .before .before .before .before .before .before .before .before .args) .ranking)) 0 (readers ((c .before .before .before .before .before .before .before .before .before .before .before .before .before .before .before .before .before .before .before .before .args) .stream .now) (ranks ((c .before .before .before .before .before .before .before .before .before .before .before .before .before .before .before .before .before .before .before .before .args) .ranking)) ((c .before .before .before .before .before .before .before .before .before .before .before .before .before .before .before .before .before .before .before .before .args) .g)) (hold 0 0 none) again ((c .before .before .before .before .before .before .before .before .before .before .before .before .before .before .before .before .before .before .before .before .args) .c) (56, any ⨾ leaf 21) ((55, any ⨾ leaf 20) ∷ (57, any ⨾ leaf 22) ∷ (12, any ⨾ leaf 23) ∷ (19, any ⨾ leaf 24) ∷ (5, any ⨾ leaf 25) ∷ (36, any ⨾ leaf 26) ∷ (53, table′) ∷ (7, any ⨾ funcbody) ∷ []) suffixed′ (sym ((c .before .before .before .before .before .before .before .before .before .before .before .before .before .before .before .before .before .get-next) .ensures) ∙ (c .before .before .before .before .before .before .before .before .before .before .before .before .before .before .before .t) .given .1) ((c .before .before .before .before .before .before .before .before .before .before .before .before .before .match2) .rest .0 .0 .0 .0 .0 .0 .0 .0 .1) ((c .before .before .before .before .before .before .before .before .before .before .before .before .before .match2) .rest .0 .0 .0 .0 .0 .0 .0 .1) ((c .before .before .before .before .before .before .before .before .before .before .before .before .before .match2) .rest .0 .0 .0 .0 .0 .0 .1) ((c .before .before .before .before .before .before .before .before .before .before .before .before .before .match2) .rest .0 .0 .0 .0 .0 .1) ((c .before .before .before .before .before .before .before .before .before .before .before .before .before .match2) .rest .0 .0 .0 .0 .1) ((c .before .before .before .before .before .before .before .before .before .before .before .before .before .match2) .rest .0 .0 .0 .1) ((c .before .before .before .before .before .before .before .before .before .before .before .before .before .match2) .rest .0 .0 .1) ((c .before .before .before .before .before .before .before .before .before .before .before .before .before .match2) .rest .0 .1) ((c .before .before .before .before .before .before .before .before .before .before .before .before .before .match2) .rest .1)) (renoted (get-note ((c .before .before .before .before .before .before .before .before .before .before .before .before .before .before .before .before .before .before .before .before .args) .stream .now) ((c .before .before .before .before .before .before .before .before .before .before .before .before .before .before .before .before .before .before .before .before .args) .c) (sym ((c .before .before .before .before .before .before .before .before .before .before .before .before .before .before .before .before .before .get-next) .ensures) ∙ (c .before .before .before .before .before .before .before .before .before .before .before .before .before .before .before .t) .given .1)) y)) (omega (arith, y .later, (get-place ((c .before .before .before .before .before .before .before .before .before .before .before .before .before .before .before .before .before .before .before .before .args) .stream .now) ((c .before .before .before .before .before .before .before .before .before .before .before .before .before .before .before .before .before .before .before .before .args) .c) (sym ((c .before .before .before .before .before .before .before .before .before .before .before .before .before .before .before .before .before .get-next) .ensures) ∙ (c .before .before .before .before .before .before .before .before .before .before .before .before .before .before .before .t) .given .1))))
