@@ -8,7 +8,7 @@ use native.Mathlib.Decide.{ℕ-discrete}
 use native.Mathlib.Omega.{arith}
 use lib.Dec.{eqb, ltb}
 use borrow.Author.Tests.{eq-eqb, ne-eqb, eqb-true, lt-ltb, ltb-true, ltb-false}
-use Rattle.operators.specs.Ranks.{Row, row, binary, unary, find, crate, manual, ranks, code, unary-code, operator, unaryOperator, binaryOperator}
+use Rattle.operators.specs.Ranks.{Row, row, binary, find, crate, manual, ranks, code, operator, binaryOperator}
 use Rattle.operators.specs.declared.Operator.the-variants.{Found, Nothing}
 use Rattle.operators.specs.declared.Ranking.{Ranking}
 use Rattle.operators.specs.declared.Ranking.the-variants.{Crate, Manual}
@@ -61,10 +61,6 @@ answered x c false h e = let f = rw (operator, h) at e in let z : _≡_ {A = ℕ
 unanswered : (x : Row) (t : Bool) → ltb 0 (x .left) ≡ t → operator x ≡ Nothing → t ≡ false
 unanswered x true h e = let f = rw (operator, h) at e in cc
 unanswered x false h e = refl
-
-pub unary-found : (k c : ℕ) → unaryOperator k ≡ Found c → unary-code k ≡ c
-unfolding unaryOperator
-unary-found k c e = answered (find k unary) c _ refl e .1
 
 pub binary-found : (k c : ℕ) → binaryOperator k ≡ Found c → code k ≡ c
 unfolding binaryOperator

@@ -2,7 +2,7 @@
 //
 // Each function reads one production from a cursor on and lays its records from record `used` on, as far as they fit. Where it
 // makes a record of its own, its parts come first, behind it, and the record is put before them when value and size are known.
-// `g` is how many more guards may live.
+// `g` is how many more guards may live. `let f = e` before a call, and `let r = ..; r`, keep the other ways' values in registers.
 use operators::MIN_PRIORITY;
 use operators::Operator;
 use operators::Ranking;

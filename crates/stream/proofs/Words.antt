@@ -83,21 +83,6 @@ module _ (s : List ℕ) (f : Formed s) where
   pub token : (p : ℕ) → p + 1 < records s → (kind s p < 59) × (pays (kind s p) (payload s p) ≡ true) × (line s p ≤ most) × (after s p ≤ most)
   token p h = token-parts (kind s p) (payload s p) (line s p) (after s p) (sym (good-token s p h) ∙ f .each p (omega arith))
 
-  pub last-kind : kind s (records s - 1) ≡ 59
-  last-kind = let z = sized-parts s (f .size) in last (records s - 1) (omega arith) .0
-
   -- what is not at its end has a record after it
   pub token-next : (p : ℕ) → (kind s p ≡ 59 → ⊥) → p + 1 < records s
   token-next p n = let i = inside s p n in by-cases (decLt (p + 1) (records s)) (λ l. l) (λ g. absurd (n (last p (omega arith) .0)))
-
-  lines : (p : ℕ) → (line s p ≤ most) × (after s p ≤ most)
-  lines p =
-      by-cases (decLt (p + 1) (records s)) (λ l. let t = token p l in (t .2, t .3))
-      (λ g. by-cases (decLt p (records s)) (λ i. let e = last p (omega arith) in omega arith)
-      (λ o. let a = word-past s p 2 0 (omega arith) in let b = word-past s p 3 0 (omega arith) in omega arith))
-
-  pub line-most : (p : ℕ) → line s p ≤ most
-  line-most p = lines p .0
-
-  pub after-most : (p : ℕ) → after s p ≤ most
-  after-most p = lines p .1
