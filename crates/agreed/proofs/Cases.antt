@@ -14,9 +14,9 @@ use Rattle.operators.specs.declared.Ranking.the-variants.{Crate, Manual}
 use Rattle.tree.specs.Forest.{Forest}
 use Rattle.grammar.specs.Member.{member}
 use Rattle.grammar.specs.Grammar.{Chunk}
-use Rattle.grammar.proofs.Forward.{wrong}
+use Rattle.grammar.proofs.Tests.{wrong}
 use Rattle.quarrel.specs.Rule.{Quarrelling, First}
-use Rattle.quarrel.specs.Notes.{NONE}
+use Rattle.quarrel.specs.Notes.{NONE, Names}
 use Rattle.quarrel.proofs.Trees.{quiet, differ}
 use Rattle.parser.specs.declared.Answer.{Answer}
 use Rattle.parser.specs.Answered.{Answered, Noted, Zeroed}
@@ -50,10 +50,6 @@ not-few : (a : Answer) → Took a → (0 < a .number) × (a .number ≤ 5) → �
 not-few a (inl e) h = omega arith
 not-few a (inr e) h = omega arith
 
--- what the note says of the tree that is derived
-abbrev Says : List ℕ → Forest → ℕ → Type 0
-Says s t first = ((first ≡ NONE) × ((i : ℕ) → ¬ Quarrelling s t i)) ⊎ First s t first
-
 module _ (s : List ℕ) (n n₁ : List ℕ) (a : Answer) (first : ℕ) (A1 : Answered s Crate n n₁ a) (N : Noted s Crate first) where
   -- none quarrels: the manual's ranking derives what the crate's does, and that reading is all
   pub agree : first ≡ NONE → Agreed s n n₁ a
@@ -67,7 +63,7 @@ module _ (s : List ℕ) (n n₁ : List ℕ) (a : Answer) (first : ℕ) (A1 : Ans
         deeper = λ t e f c none x. absurd (none t (quiet s 199 c (silent t f (N .derived t f c))));
       }
     where
-      silent : (t : Forest) → Formed s → Says s t first → (i : ℕ) → ¬ Quarrelling s t i
+      silent : (t : Forest) → Formed s → Names s t first → (i : ℕ) → ¬ Quarrelling s t i
       silent t f (inl x) = x .1
       silent t f (inr x) = let k = below s f (x .quarrelling) in absurd (omega arith)
 
@@ -100,7 +96,7 @@ module _ (s : List ℕ) (n n₁ : List ℕ) (a : Answer) (first : ℕ) (A1 : Ans
           deeper = λ t e f c none x. absurd (not-few b took (declined s Manual A2 f x));
         }
       where
-        that : {t : Forest} → Says s t first → First s t first
+        that : {t : Forest} → Names s t first → First s t first
         that (inl x) = absurd (some (x .0))
         that (inr x) = x
 

@@ -1,5 +1,5 @@
 -- The promise of the agreed reading leaves one answer. Assumes nothing.
-use mathlib.Core.Path.{_≡_, sym, _∙_, subst}
+use mathlib.Core.Path.{_≡_, sym, subst}
 use mathlib.Core.List.{List}
 use mathlib.Core.Logic.{_⊎_, inl, inr, by-cases}
 use Prim.Native.Nat.{ℕ, _*_, _≤_, _<_}
@@ -15,12 +15,13 @@ use Rattle.tree.specs.Forest.{Forest, size}
 use Rattle.grammar.specs.Grammar.{Chunk}
 use Rattle.grammar.specs.Reading.{fail}
 use Rattle.grammar.specs.Levels.{chunk}
+use Rattle.grammar.proofs.Sides.{Side, derived, refused, side}
 use Rattle.quarrel.specs.Rule.{Quarrelling, First}
 use Rattle.quarrel.proofs.Trees.{differ}
 use Rattle.parser.specs.declared.Answer.{Answer}
+use Rattle.parser.proofs.Decided.{agree}
 use Rattle.agreed.specs.Agreed.{Agreed}
 use Rattle.agreed.proofs.Places.{none-or-first}
-use Rattle.agreed.proofs.Readings.{Side, derived, refused, side}
 
 -- the six cases of the promise
 pub data Case (s : List ℕ) (levels : ℕ) (n : List ℕ) : Type 0 where
@@ -52,18 +53,14 @@ module _ (s : List ℕ) (levels : ℕ) (n : List ℕ) where
       by-form (inl f) = by-sides f (side s Crate levels) (side s Manual levels)
       by-form (inr b) = bad (b .1)
 
--- two that are the same as a third
-alike : {A B : Type 0} {a b c : A} {x y z : B} → (a ≡ c) × (x ≡ z) → (b ≡ c) × (y ≡ z) → (a ≡ b) × (x ≡ y)
-alike p q = (p .0 ∙ sym (q .0), p .1 ∙ sym (q .1))
-
 -- no second answer would do
 pub decided : (s n : List ℕ) {n′ n″ : List ℕ} {a b : Answer} → Agreed s n n′ a → Agreed s n n″ b → (a ≡ b) × (n′ ≡ n″)
 decided s n {n′} {n″} {a} {b} x y = by-case (the-case s 199 n)
   where
     by-case : Case s 199 n → (a ≡ b) × (n′ ≡ n″)
-    by-case (bad {p} m) = alike (x .malformed p m) (y .malformed p m)
-    by-case (roomed {t} f c d l) = alike (x .agrees t f c d l) (y .agrees t f c d l)
-    by-case (cramped {t} f c d l) = alike (x .short t f c d l) (y .short t f c d l)
-    by-case (apart {t} {u} {i} f c d ne q) = alike (x .differs t u i f c d ne q) (y .differs t u i f c d ne q)
-    by-case (underived {e} f none z) = alike (x .refuses e f none z) (y .refuses e f none z)
-    by-case (deep {t} {e} f c none z) = alike (x .deeper t e f c none z) (y .deeper t e f c none z)
+    by-case (bad {p} m) = agree (x .malformed p m) (y .malformed p m)
+    by-case (roomed {t} f c d l) = agree (x .agrees t f c d l) (y .agrees t f c d l)
+    by-case (cramped {t} f c d l) = agree (x .short t f c d l) (y .short t f c d l)
+    by-case (apart {t} {u} {i} f c d ne q) = agree (x .differs t u i f c d ne q) (y .differs t u i f c d ne q)
+    by-case (underived {e} f none z) = agree (x .refuses e f none z) (y .refuses e f none z)
+    by-case (deep {t} {e} f c none z) = agree (x .deeper t e f c none z) (y .deeper t e f c none z)

@@ -83,7 +83,7 @@ module _ (s : List ℕ) where
   read-one (p ∷ a) o b x = read-one a o b (x .1)
 
   -- the token there is a `~=`
-  pub unequal-there : {t : Forest} {i : ℕ} → Quarrelling s t i → kind s i ≡ NotEqual
+  unequal-there : {t : Forest} {i : ℕ} → Quarrelling s t i → kind s i ≡ NotEqual
   unequal-there {t} {i} q =
       let z = q .quarrels in
       let x = read-one (z .before) (q .one) (z .after) (subst Read (z .split) (read-in (q .its) (read-chains t))) in

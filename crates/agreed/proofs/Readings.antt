@@ -1,5 +1,5 @@
--- One reading and what it promises: it derives a tree or tells why not, by a number of 1 to 5; the array keeps its length. Assumes nothing.
-use mathlib.Core.Path.{_≡_, refl, ap, _∙_, subst}
+-- One reading and what it promises: its number case by case, and that the array keeps its length. Assumes nothing.
+use mathlib.Core.Path.{_≡_, ap, _∙_}
 use mathlib.Core.List.{List, _++_}
 use mathlib.Core.Logic.{_⊎_, inl, inr, by-cases}
 use Prim.Native.Nat.{ℕ, _*_, _≤_}
@@ -14,31 +14,12 @@ use Rattle.operators.specs.declared.Ranking.{Ranking}
 use Rattle.tree.specs.Forest.{Forest, size, flat}
 use Rattle.tree.proofs.Lay.{length-flat}
 use Rattle.grammar.specs.Grammar.{Chunk}
-use Rattle.grammar.specs.Reading.{Out, fine, fail}
+use Rattle.grammar.specs.Reading.{fail}
 use Rattle.grammar.specs.Levels.{chunk}
-use Rattle.grammar.proofs.Bounds.{Numbered, Bounded, bounded}
-use Rattle.grammar.proofs.Theorems.{sound, complete, is-ranked}
+use Rattle.grammar.proofs.Bounds.{Numbered}
+use Rattle.grammar.proofs.Sides.{Side, derived, refused, side, refused-none, numbers}
 use Rattle.parser.specs.declared.Answer.{Answer}
 use Rattle.parser.specs.Answered.{Answered, Zeroed}
-
--- a tree is derived, or none is, and the reading tells why
-pub data Side (s : List ℕ) (r : Ranking) (levels : ℕ) : Type 0 where
-  derived : {t : Forest} → Chunk s (ranks r) levels t → Side s r levels
-  refused : {e : Refusal} → ((t : Forest) → Chunk s (ranks r) levels t → ⊥) → chunk s (ranks r) levels ≡ fail e → Side s r levels
-
-module _ (s : List ℕ) (r : Ranking) (levels : ℕ) where
-  pub refused-none : {e : Refusal} → chunk s (ranks r) levels ≡ fail e → (t : Forest) → Chunk s (ranks r) levels t → ⊥
-  refused-none x t d = let z : _≡_ {A = ℕ} 0 1 = cc (complete s (ranks r) levels (is-ranked r) d .1, x) in omega arith
-
-  pub side : Side s r levels
-  side = go (chunk s (ranks r) levels) refl
-    where
-      go : (o : Out) → chunk s (ranks r) levels ≡ o → Side s r levels
-      go (fine q m t v) x = derived (sound s (ranks r) levels (is-ranked r) x)
-      go (fail e) x = refused (refused-none x) x
-
-  pub numbers : {e : Refusal} → Formed s → chunk s (ranks r) levels ≡ fail e → Numbered (e .number)
-  numbers f x = subst (Bounded s) x (bounded s f (ranks r) levels)
 
 zeroed-length : (n : List ℕ) {n′ : List ℕ} → Zeroed n n′ → length n′ ≡ length n
 zeroed-length n e = ap length e ∙ length-replicate (length n) 0

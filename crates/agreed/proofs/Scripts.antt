@@ -21,8 +21,9 @@ use Rattle.grammar.specs.Reading.{Out, fine, fail, read}
 use Rattle.grammar.specs.Levels.{chunk}
 use Rattle.grammar.specs.Productions.{explist, retstat, block, parlist, funcbody, field, table, args, suffix, primary, suffixed, simple, head, tail, tails, expression}
 use Rattle.grammar.specs.Productions.{ifstat, whilestat, dostat, forstat, repeatstat, functionstat, localfunction, localstat, label, breakstat, gotostat, exprstat, statement}
-use Rattle.grammar.proofs.Forward.{and-left, and-right}
+use Rattle.grammar.proofs.Tests.{and-left, and-right}
 use Rattle.grammar.proofs.Theorems.{sound, is-ranked}
+use Rattle.grammar.proofs.Sides.{refused-none}
 use Rattle.quarrel.proofs.Classes.{look}
 use Rattle.quarrel.proofs.Noted.{nested, found-none, found-some}
 use Rattle.quarrel.proofs.Trees.{differ}
@@ -30,7 +31,6 @@ use Rattle.parser.specs.declared.Answer.{Answer}
 use Rattle.parser.specs.Answered.{Answered, counting}
 use Rattle.agreed.specs.Agreed.{Agreed}
 use Rattle.agreed.specs.Scripts.{Reading, crate, agreed, Due, accepted, refused, Script, Promised, Given, Shown, marked-scripts}
-use Rattle.agreed.proofs.Readings.{refused-none}
 
 -- a stream's form as a test
 goods : List ℕ → ℕ → Bool

@@ -18,10 +18,11 @@ use Rattle.grammar.specs.Reading.{Out, fine, fail}
 use Rattle.grammar.specs.Levels.{chunk}
 use Rattle.grammar.specs.Compare.{Like, Alike, fines, fails, deep-left, deep-right}
 use Rattle.grammar.proofs.Theorems.{sound, complete, is-ranked, side-by-side}
+use Rattle.grammar.proofs.Sides.{Side, derived, refused, side, numbers, refused-none}
 use Rattle.parser.specs.declared.Answer.{Answer}
 use Rattle.parser.specs.Answered.{Answered, counting, Zeroed}
 use Rattle.agreed.specs.Agreed.{Agreed}
-use Rattle.agreed.proofs.Readings.{Side, derived, refused, side, numbers, refused-none, accepted, declined}
+use Rattle.agreed.proofs.Readings.{accepted, declined}
 use Rattle.agreed.proofs.Cases.{Took}
 use Rattle.agreed.proofs.Decided.{Case, bad, roomed, cramped, apart, underived, deep, the-case}
 

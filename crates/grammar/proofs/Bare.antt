@@ -2,14 +2,15 @@
 use mathlib.Core.Path.{_≡_, refl, sym, ap, _∙_, subst}
 use mathlib.Core.List.{List}
 use mathlib.Core.Bool.{Bool, true, false}
-use Prim.Native.Nat.{ℕ, suc, _+_, _-_, _≤_, _<_, min, max}
+use Prim.Native.Nat.{ℕ, suc, _+_, _-_, _≤_, _<_}
 use native.Mathlib.Omega.{arith}
 use borrow.Author.Tests.{eqb-false}
 use lib.ListN.{length}
 use lib.Dec.{eqb, ltb}
 use Rattle.stream.specs.Reader.{reached}
 use Rattle.tree.specs.Forest.{Forest, none}
-use Rattle.stream.specs.Words.{records, kind}
+use Rattle.stream.specs.Words.{kind}
+use Rattle.stream.proofs.Reading.{reached-twice}
 use Rattle.grammar.specs.Term.{Line, unlined}
 use Rattle.operators.specs.Ranks.{Ranks, code}
 use Rattle.grammar.specs.Reading.{hold}
@@ -17,8 +18,8 @@ use Rattle.stream.specs.declared.reader.Refusal.{Refusal}
 use Rattle.grammar.specs.Reading.{Out, fine, fail, Reader, Readers, ended, add, then, wrap, loop, read}
 use Rattle.grammar.specs.Productions.{tail}
 use Rattle.grammar.proofs.Sound.{Fits}
+use Rattle.grammar.proofs.Tests.{yes-case, no-case}
 use Rattle.grammar.proofs.Forward.{inside, Step}
-use Rattle.grammar.proofs.Complete.{yes-case, no-case}
 
 pub data Bare : Type 0 where
   at : (p m : ℕ) → Bare
@@ -96,20 +97,13 @@ take-ahead s p m = go (eqb (kind s p) 59) refl
     go true h = tt
     go false h = let i = inside s p (eqb-false (kind s p) 59 h) in (omega arith, omega arith)
 
-max-idem : (m x : ℕ) → max (max m x) x ≡ max m x
-max-idem m x = omega arith
-
--- a second look reaches no further
-pub idem : (s : List ℕ) (m p : ℕ) → reached s (reached s m p 2) p 2 ≡ reached s m p 2
-idem s m p = max-idem m (min (p + 2) (records s))
-
 module _ (s : List ℕ) (rank : Ranks) (limit : ℕ) (R : Readers) where
   -- so many tails
   abbrev pub turns : ℕ → Reader
   turns f = loop s f (read s rank limit R (hold 0 0 none) tail)
 
   -- one operand more, and then
-  abbrev pub operands : (ℕ → ℕ → Bare) → ℕ → ℕ → Bare
+  abbrev operands : (ℕ → ℕ → Bare) → ℕ → ℕ → Bare
   operands k p m = bind (bare (take s p m)) (λ q n. bind (bare (R .exps (rank .right (kind s (q - 1))) q n)) k)
 
   abbrev right : Reader
@@ -137,5 +131,5 @@ module _ (s : List ℕ) (rank : Ranks) (limit : ℕ) (R : Readers) where
   turn-mark f p m = go (ltb limit (rank .left (kind s p))) refl
     where
       go : (c : Bool) → ltb limit (rank .left (kind s p)) ≡ c → bare (turns (suc f) p (reached s m p 2)) ≡ bare (turns (suc f) p m)
-      go true h = turn-above f p (reached s m p 2) h ∙ ap (operands (λ q n. bare (turns f q n)) p) (idem s m p) ∙ sym (turn-above f p m h)
-      go false h = turn-below f p (reached s m p 2) h ∙ ap (at p) (idem s m p) ∙ sym (turn-below f p m h)
+      go true h = turn-above f p (reached s m p 2) h ∙ ap (operands (λ q n. bare (turns f q n)) p) (reached-twice s m p 2) ∙ sym (turn-above f p m h)
+      go false h = turn-below f p (reached s m p 2) h ∙ ap (at p) (reached-twice s m p 2) ∙ sym (turn-below f p m h)

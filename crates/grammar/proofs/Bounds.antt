@@ -21,7 +21,7 @@ use Rattle.grammar.specs.Reading.{Out, fine, fail, Reader, Readers, Held
 use Rattle.grammar.specs.Productions.{explist, retstat, block, parlist, funcbody, field, table, args, suffix, primary, suffixed, simple, head, tail, tails, expression}
 use Rattle.grammar.specs.Productions.{ifstat, whilestat, dostat, forstat, repeatstat, functionstat, localfunction, localstat, label, breakstat, gotostat, exprstat, statement}
 use Rattle.grammar.specs.Levels.{readers, finish, chunk}
-use Rattle.grammar.proofs.Forward.{and-left, and-right}
+use Rattle.grammar.proofs.Tests.{and-left, and-right}
 use Rattle.grammar.proofs.Sound.{either}
 
 -- a refusal's number; a place at a record, or such a refusal
@@ -99,7 +99,7 @@ module _ (s : List ℕ) where
 
 -- a term, over bounded readers one level down
 module _ (s : List ℕ) (formed : Formed s) (rank : Ranks) (limit : ℕ) (R : Readers) (exps : (l : ℕ) → Within s (R .exps l)) (stats : Within s (R .stats)) where
-  pub bound : (h : Held) (e : Term) → sane e ≡ true → (A : Reader) → Within s A → Within s (read s rank limit R h e A)
+  bound : (h : Held) (e : Term) → sane e ≡ true → (A : Reader) → Within s A → Within s (read s rank limit R h e A)
   unfolding read
   bound h empty x A r p m l = l
   bound h (expect k c o) x A r p m l =

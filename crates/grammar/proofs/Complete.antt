@@ -18,21 +18,14 @@ use Rattle.grammar.proofs.Derives.{Phrase, Phrases, Derives, Alone}
 use Rattle.grammar.specs.Reading.{Held, hold, startOf}
 use Rattle.grammar.proofs.Derives.{empty′, expect′, any′, leaf′, weigh′, coded′, plus′, exp′, operand′, stat′, seq′, this′, that′, above′, below′, node′, lead′, held′, kept′, iter′, again′}
 use Rattle.grammar.specs.Reading.{Out, fine, Reader, Readers, add, then, leads, keep, misfit, wrap, loop, read, alone, reach}
-use Rattle.grammar.proofs.Forward.{wrong, and-left, and-right, Moves, Steps, moves, steps-alone}
+use Rattle.grammar.proofs.Tests.{and-left, and-right, yes-case, no-case}
+use Rattle.grammar.proofs.Forward.{Moves, Steps, moves, steps-alone}
 
 abbrev pub Accepts : Out → ℕ → Forest → ℕ → Type 0
 Accepts o j t v = (m : ℕ) × (o ≡ fine j m t v)
 
 abbrev pub Complete : Reader → Phrase → Type 0
 Complete R P = (i j v : ℕ) (t : Forest) → P i j t v → (m : ℕ) → Accepts (R i m) j t v
-
-pub yes-case : (c : Bool) (x y : Out) → c ≡ true → elim c as (λ z. Out) [ true ↦ x | false ↦ y ] ≡ x
-yes-case true x y h = refl
-yes-case false x y h = wrong h
-
-pub no-case : (c : Bool) (x y : Out) → c ≡ false → elim c as (λ z. Out) [ true ↦ x | false ↦ y ] ≡ y
-no-case true x y h = wrong (sym h)
-no-case false x y h = refl
 
 accepts : {o x : Out} {j v : ℕ} {t : Forest} → o ≡ x → Accepts x j t v → Accepts o j t v
 accepts e a = (a .0, e ∙ a .1)

@@ -21,7 +21,7 @@ use Rattle.grammar.specs.Grammar.{Among, Ends, name, stated, made, first
 use Rattle.grammar.specs.Grammar as G
 use Rattle.grammar.proofs.Derives.{Phrases, Derives}
 use Rattle.grammar.proofs.Derives.{empty′, expect′, any′, leaf′, weigh′, coded′, plus′, exp′, operand′, stat′, seq′, this′, that′, above′, below′, node′, lead′, held′, kept′, iter′, again′}
-use Rattle.grammar.proofs.Forward.{wrong}
+use Rattle.grammar.proofs.Tests.{wrong}
 use Rattle.grammar.proofs.Sets.{known, apart, only}
 use Rattle.grammar.proofs.Lower.{Lower, retree, revalue, before}
 use Rattle.grammar.proofs.Turns.{stops, exp-turn, stat-turn, param-turn, field-turn, suffix-turn, elseif-turn, name-turn, fieldname-turn, target-turn}

@@ -1,38 +1,24 @@
 -- Derivations go forward, within the stream. Assumes nothing.
 use mathlib.Core.Path.{_≡_, refl, sym, _∙_, subst}
 use mathlib.Core.List.{List}
-use mathlib.Core.Bool.{Bool, true, false, _&&_, _||_}
+use mathlib.Core.Bool.{true, false, _&&_}
 use Prim.Native.Nat.{ℕ, _+_, _≤_, _<_}
 use native.Mathlib.Omega.{arith}
 use native.Mathlib.Decide.{decLt}
 use borrow.Author.Tests.{ltb-true}
 use lib.ListN.{length}
-use lib.Dec.{ltb, T}
+use lib.Dec.{ltb}
 use Rattle.tree.specs.Forest.{Forest}
 use Rattle.stream.specs.Words.{kind}
 use Rattle.stream.proofs.Words.{inside as record-inside}
 use Rattle.grammar.specs.Term.{Term}
+use Rattle.grammar.proofs.Tests.{wrong, and-left, and-right, or-elim}
 use Rattle.grammar.proofs.Form.{consumes, guarded, wellmade}
 use Rattle.grammar.specs.Term.{_⨾_, on, operator, lead, again}
 use Rattle.operators.specs.Ranks.{Ranks}
 use Rattle.grammar.proofs.Derives.{Phrase, Phrases, Derives, Alone}
 use Rattle.grammar.specs.Reading.{Held}
 use Rattle.grammar.proofs.Derives.{empty′, expect′, any′, leaf′, weigh′, coded′, plus′, exp′, operand′, stat′, seq′, this′, that′, above′, below′, node′, lead′, held′, kept′, iter′, again′}
-
-pub wrong {ℓ} : {A : Type ℓ} → false ≡ true → A
-wrong h = absurd (subst T (sym h) tt)
-
-pub and-left : (a b : Bool) → (a && b) ≡ true → a ≡ true
-and-left true b h = refl
-and-left false b h = h
-
-pub and-right : (a b : Bool) → (a && b) ≡ true → b ≡ true
-and-right true b h = h
-and-right false b h = wrong h
-
-pub or-elim : {A : Type 0} (a b : Bool) → (a || b) ≡ true → (a ≡ true → A) → (b ≡ true → A) → A
-or-elim true b h f g = f refl
-or-elim false b h f g = g h
 
 pub inside : (s : List ℕ) (i : ℕ) → (kind s i ≡ 59 → ⊥) → i < length s
 inside s i h = omega (arith, record-inside s i h)

@@ -19,7 +19,7 @@ use Rattle.grammar.specs.Compare.{Rises, stays, deeper, Like, nones, tre
 use Rattle.grammar.specs.Reading.{hold, shaped, last, ends}
 use Rattle.stream.specs.declared.reader.Refusal.{Refusal}
 use Rattle.grammar.specs.Reading.{Out, fine, fail, Reader, Readers, add, then, leads, keep, misfit, wrap, loop, read, alone, reach}
-use Rattle.grammar.proofs.Forward.{wrong, and-left, and-right}
+use Rattle.grammar.proofs.Tests.{wrong, and-left, and-right}
 
 -- a relation of answers, over one of trees, that what is made of answers keeps
 pub record Kin (K : Out → Out → Type 0) (L : Forest → Forest → Type 0) : Type 0 where

@@ -20,8 +20,9 @@ use Rattle.grammar.specs.Productions.{block, expression, statement}
 use Rattle.grammar.proofs.Derives.{phrases, Chunk}
 use Rattle.grammar.specs.Levels.{readers, finish, chunk}
 use Rattle.grammar.proofs.Sound.{Fits, Sound, either, sound-alone}
-use Rattle.grammar.proofs.Forward.{and-left, and-right, Steps, steps-alone}
-use Rattle.grammar.proofs.Complete.{Accepts, Complete, yes-case, complete-alone, complete-whole}
+use Rattle.grammar.proofs.Tests.{and-left, and-right, yes-case}
+use Rattle.grammar.proofs.Forward.{Steps, steps-alone}
+use Rattle.grammar.proofs.Complete.{Accepts, Complete, complete-alone, complete-whole}
 use Rattle.grammar.specs.Compare.{Rises, stays, deeper}
 use Rattle.grammar.proofs.Kin.{kindred-alone, rises-kin}
 use Rattle.grammar.proofs.Unroll.{unroll}
@@ -58,7 +59,7 @@ module _ (s : List ℕ) (rank : Ranks) where
       let h = sounds g in
       (λ l. sound-alone s rank l (phrases s rank g) (readers s rank g) (h .0) (h .1) expression, sound-alone s rank 0 (phrases s rank g) (readers s rank g) (h .0) (h .1) statement)
 
-  pub completes : (g : ℕ) → ((l : ℕ) → Complete (readers s rank g .exps l) (phrases s rank g .exps l)) × Complete (readers s rank g .stats) (phrases s rank g .stats)
+  completes : (g : ℕ) → ((l : ℕ) → Complete (readers s rank g .exps l) (phrases s rank g .exps l)) × Complete (readers s rank g .stats) (phrases s rank g .stats)
   completes zero = (λ l i j v t d. absurd d, λ i j v t d. absurd d)
   completes (suc g) =
       let h = completes g in

@@ -10,6 +10,7 @@ use lib.ListN.{length}
 use lib.Dec.{eqb, ltb}
 use Rattle.stream.specs.Reader.{reached}
 use Rattle.tree.specs.Forest.{Forest, none}
+use Rattle.stream.proofs.Reading.{reached-twice}
 use Rattle.stream.specs.Words.{kind}
 use Rattle.grammar.specs.Term.{Term, next, Line, unlined, here, Shape}
 use Rattle.grammar.specs.Member.{member}
@@ -24,13 +25,14 @@ use Rattle.grammar.specs.Productions.{simple, head, tail, tails, express
 use Rattle.grammar.proofs.Derives.{phrases}
 use Rattle.grammar.specs.Levels.{readers, finish, chunk}
 use Rattle.grammar.proofs.Sound.{fits-map, sound, sound-loop}
-use Rattle.grammar.proofs.Forward.{wrong, and-left, and-right, Step, stepped, moves}
+use Rattle.grammar.proofs.Tests.{wrong, and-left, and-right}
+use Rattle.grammar.proofs.Forward.{Step, stepped, moves}
 use Rattle.grammar.specs.Compare.{Like, nones, trees, expressions}
 use Rattle.grammar.proofs.Kin.{Kin, kindred, kindred-alone, either2, like-same, like-join, like-sym, like-trans, like-shaped}
 use Rattle.grammar.specs.Compare.{Alike, fines, fails, deep-left, deep-right}
 use Rattle.grammar.proofs.Made.{expression-made, head-made, tail-made, statement-plain, simple-plain, simple-closed, block-plain}
 use Rattle.grammar.proofs.Levels.{forward, sounds}
-use Rattle.grammar.proofs.Bare.{idem, Bare, at, stop, bare, bind, bind-assoc, bind-cong, bare-add, bare-then, bare-wrap, Lower, alike, deep, lower-eq, lower-trans, lower-bind, Ahead, ahead-fits, bind-lower, bind-eq, take, take-ahead}
+use Rattle.grammar.proofs.Bare.{Bare, at, stop, bare, bind, bind-assoc, bind-cong, bare-add, bare-then, bare-wrap, Lower, alike, deep, lower-eq, lower-trans, lower-bind, Ahead, ahead-fits, bind-lower, bind-eq, take, take-ahead}
 use Rattle.grammar.proofs.Bare.{turns, turn-above, turn-below, turn-mark}
 use Rattle.grammar.proofs.Unroll.{bit, fuels}
 
@@ -224,7 +226,7 @@ module _ (s : List ℕ) (ops : ℕ → Bool) (rank : Ranks) (same-ops : (k : ℕ
         let x = turn-below s rank 0 (readers s rank g) f p m h in
         ap (λ (z : Bare). bind z (Rest M)) x
         ∙ turn-below s (flat ops) 0 (readers s (flat ops) M) (length s) p (reached s m p 2) (flat-below _ (sym (same-ops (kind s p)) ∙ h))
-        ∙ ap (at p) (idem s m p) ∙ sym x
+        ∙ ap (at p) (reached-twice s m p 2) ∙ sym x
 
     spent : (f p m : ℕ) → bind (bare (turns s rank 0 (readers s rank g) f p m)) (Rest M) ≡ bare (turns s rank 0 (readers s rank g) f p m)
     spent zero p m = refl
@@ -323,7 +325,7 @@ module _ (s : List ℕ) (ops : ℕ → Bool) (rank : Ranks) (same-ops : (k : ℕ
   finish-under a b (five x) = five x
 
   -- a ranking reads as the flat one does, if it doesn't end in a refusal 5
-  pub flattened : (g : ℕ) → Under (chunk s rank g) (chunk s (flat ops) g)
+  flattened : (g : ℕ) → Under (chunk s rank g) (chunk s (flat ops) g)
   flattened g =
       let h = level g in
       finish-under _ _

@@ -6,7 +6,7 @@ use Prim.Native.Nat.{ℕ}
 use lib.Dec.{eqb}
 use borrow.Author.Tests.{eqb-true, not-true}
 use Rattle.grammar.specs.Member.{member}
-use Rattle.grammar.proofs.Forward.{wrong, and-left, and-right, or-elim}
+use Rattle.grammar.proofs.Tests.{wrong, and-left, and-right, or-elim}
 
 -- no kind is in both; each of the first is in the second
 abbrev pub disjoint : List ℕ → List ℕ → Bool

@@ -16,7 +16,7 @@ use Rattle.grammar.proofs.Derives.{empty′, expect′, any′, leaf′
 use Rattle.grammar.specs.Productions.{explist, retstat, block, parlist, funcbody, field, table, args, suffix, primary, suffixed, simple, head, tail, tails, expression}
 use Rattle.grammar.specs.Productions.{ifstat, whilestat, dostat, forstat, repeatstat, functionstat, localfunction, localstat, label, breakstat, gotostat, exprstat, statement}
 use Rattle.grammar.proofs.Derives.{phrases, Chunk}
-use Rattle.grammar.proofs.Forward.{wrong, and-left, and-right}
+use Rattle.grammar.proofs.Tests.{wrong, and-left, and-right}
 
 -- so many records more than four a token: `more` less `less`
 record Cost : Type 0 where
@@ -224,7 +224,7 @@ module _ (s : List ℕ) (rank : Ranks) (limit : ℕ) (P : Phrases) (small-exp : 
   plainly : Body (bill 0 0) false empty
   plainly = record { settles = record { leq = omega arith }; spares = refl; shares = λ n. omega arith }
 
-  pub sized-alone : (e : Term) (c n : ℕ) → (frugal true (iter e) && leq (cost (bill 0 99) e) (bill c n)) ≡ true
+  sized-alone : (e : Term) (c n : ℕ) → (frugal true (iter e) && leq (cost (bill 0 99) e) (bill c n)) ≡ true
       → (i j v : ℕ) (t : Forest) → Alone s rank limit P e i j t v → size t + n + 4 * i ≤ 4 * j + c
   sized-alone e c n k i j v t d =
       let p = sized (bill 0 0) false plainly (and-left (frugal true (iter e)) _ k) (iter′ {b = empty} d) in
@@ -244,7 +244,7 @@ unfolding explist retstat block
 block-frugal = refl
 
 module _ (s : List ℕ) (rank : Ranks) where
-  pub smalls : (g : ℕ) → ((l : ℕ) → Small (phrases s rank g .exps l)) × Small (phrases s rank g .stats)
+  smalls : (g : ℕ) → ((l : ℕ) → Small (phrases s rank g .exps l)) × Small (phrases s rank g .stats)
   smalls zero = (λ l i j v t d. absurd d, λ i j v t d. absurd d)
   smalls (suc g) =
       let h = smalls g in (

@@ -1,9 +1,9 @@
 -- A term that asks for nothing around it reads the same wherever it stands: whatever is held, whatever `again` stands for, whatever
 -- the limit is. Assumes nothing.
-use mathlib.Core.Path.{_≡_, refl, sym, ap, _∙_}
+use mathlib.Core.Path.{_≡_, refl, ap, _∙_}
 use mathlib.Core.List.{List}
 use mathlib.Core.Bool.{Bool, true, false, _&&_}
-use Prim.Native.Nat.{ℕ, zero, suc, _+_, _-_}
+use Prim.Native.Nat.{ℕ, zero, suc, _-_}
 use lib.ListN.{length}
 use lib.Dec.{eqb}
 use Rattle.stream.specs.Words.{kind}
@@ -11,10 +11,10 @@ use Rattle.stream.specs.Reader.{reached}
 use Rattle.operators.specs.Ranks.{Ranks}
 use Rattle.tree.specs.Forest.{Forest, none}
 use Rattle.grammar.specs.Member.{member}
-use Rattle.grammar.specs.Term.{Term, Look, far, must, Line, From, here, back, Shape}
+use Rattle.grammar.specs.Term.{Term, far, must, here, back}
 use Rattle.grammar.specs.Term.{empty, expect, any, leaf, weigh, coded, plus, exp, operand, stat, _⨾_, on, operator, refuse, node, lead, held, kept, iter, again}
 use Rattle.grammar.specs.Reading.{Out, fine, fail, Reader, Readers, Held, hold, add, then, leads, keep, misfit, wrap, loop, read, reach}
-use Rattle.grammar.proofs.Forward.{wrong, and-left, and-right}
+use Rattle.grammar.proofs.Tests.{wrong, and-left, and-right}
 use Rattle.grammar.proofs.Unroll.{pick-eq}
 
 -- what it may ask for: what `again` stands for, where what is held ends, and what is held

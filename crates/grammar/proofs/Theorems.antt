@@ -1,12 +1,12 @@
 -- The theorems: the reading accepts what the grammar derives, and nothing else, within any number of levels and under any ranking
 -- of section 9's operators; what more levels change; how large a tree is; two rankings side by side. Assumes nothing.
-use mathlib.Core.Path.{_≡_, refl, sym, _∙_}
+use mathlib.Core.Path.{_≡_, refl}
 use mathlib.Core.List.{List}
-use mathlib.Core.Bool.{Bool, true, _||_, not}
+use mathlib.Core.Bool.{Bool, true}
 use Prim.Native.Nat.{ℕ, zero, suc, _+_, _*_, _≤_, _<_}
 use native.Mathlib.Nat.{add-zero, add-suc}
 use lib.Dec.{ltb}
-use borrow.Author.Tests.{lt-ltb, not-true}
+use borrow.Author.Tests.{lt-ltb}
 use Rattle.operators.specs.Ranks.{Ranks, Row, row, binary, find, ranks}
 use Rattle.operators.specs.declared.Ranking.{Ranking}
 use Rattle.operators.specs.declared.Ranking.the-variants.{Crate, Manual}
@@ -17,7 +17,7 @@ use Rattle.grammar.specs.Grammar.{Chunk, Ranked, binop}
 use Rattle.grammar.specs.Reading.{Out, fine}
 use Rattle.grammar.specs.Levels.{chunk}
 use Rattle.grammar.specs.Compare.{Rises, stays, deeper, Alike}
-use Rattle.grammar.proofs.Forward.{wrong, or-elim}
+use Rattle.grammar.proofs.Tests.{imp, imp-at}
 use Rattle.grammar.proofs.Levels as L
 use Rattle.grammar.proofs.Size as S
 use Rattle.grammar.proofs.Rankings.{rankings}
@@ -56,15 +56,13 @@ side-by-side = rankings
 
 -- the crate's ranking and the manual's are rankings of section 9's operators
 listed : Row → Row → Bool
-listed x y = not (ltb 0 (x .left)) || member (x .kind) binop
+listed x y = imp (ltb 0 (x .left)) (member (x .kind) binop)
 
 all-listed : (k : ℕ) (rows : List Row) → each listed rows rows ≡ true → listed (row k 0 0 0) (row k 0 0 0) ≡ true → 0 < find k rows .left → member k binop ≡ true
 unfolding listed
-all-listed k rows h d l =
-    or-elim (not (ltb 0 (find k rows .left))) (member (find k rows .kind) binop) (rule listed k rows rows h d)
-    (λ x. wrong (sym (not-true _ x) ∙ lt-ltb _ _ l)) (λ x. rw find-kind at x)
+all-listed k rows h d l = rw find-kind at (imp-at _ _ (rule listed k rows rows h d) (lt-ltb _ _ l))
 
 pub is-ranked : (r : Ranking) → Ranked (ranks r)
-unfolding listed
+unfolding imp listed
 is-ranked Crate k l = all-listed k (binary 10) refl refl l
 is-ranked Manual k l = all-listed k (binary 3) refl refl l

@@ -9,16 +9,15 @@ use borrow.Author.Tests.{eqb-true, eq-eqb}
 use Rattle.stream.specs.Kinds.{String, Dot, LeftBracket, Colon, LeftParen, LeftBrace, RightBracket}
 use Rattle.stream.specs.Words.{kind}
 use Rattle.stream.specs.Reader.{reached}
+use Rattle.stream.proofs.Reading.{reached-twice}
 use Rattle.operators.specs.Ranks.{Ranks}
 use Rattle.grammar.specs.Member.{member}
 use Rattle.grammar.specs.Term.{Term, next, unlined, here, _⇒_∣_, expect, any, weigh, _⨾_, on, refuse, node}
 use Rattle.grammar.specs.Reading.{Reader, Readers, Held, read}
 use Rattle.grammar.specs.Productions.{named, word, expr, args, suffix}
 use Rattle.grammar.specs.Grammar.{Among, first-suffix}
-use Rattle.grammar.proofs.Forward.{wrong, or-elim}
+use Rattle.grammar.proofs.Tests.{wrong, or-elim, yes-case, no-case}
 use Rattle.grammar.proofs.Sets.{known}
-use Rattle.grammar.proofs.Complete.{yes-case, no-case}
-use Rattle.grammar.proofs.Bare.{idem}
 
 -- parse_field_suffix, with its default error
 abbrev pub field-suffix : ℕ → Term
@@ -52,11 +51,11 @@ module _ (s : List ℕ) (rank : Ranks) (limit : ℕ) (R : Readers) (h : Held) (A
   module _ (k : ℕ) (is : kind s p ≡ k) (real : eqb k 59 ≡ false) where
     yes : {a b f : Term} {ks : List ℕ} → member k ks ≡ true → Alike-at a f → Alike-at (on next ks a b) f
     unfolding read
-    yes {a} {ks = ks} y x = record { alike = λ m. no-case _ _ _ (ap (λ z. eqb z 59) is ∙ real) ∙ yes-case _ _ _ (known ks is y) ∙ ap (read s rank limit R h a A p) (idem s m p) ∙ x .alike m }
+    yes {a} {ks = ks} y x = record { alike = λ m. no-case _ _ _ (ap (λ z. eqb z 59) is ∙ real) ∙ yes-case _ _ _ (known ks is y) ∙ ap (read s rank limit R h a A p) (reached-twice s m p 2) ∙ x .alike m }
 
     no : {a b f : Term} {ks : List ℕ} → member k ks ≡ false → Alike-at b f → Alike-at (on next ks a b) f
     unfolding read
-    no {b = b} {ks = ks} y x = record { alike = λ m. no-case _ _ _ (ap (λ z. eqb z 59) is ∙ real) ∙ no-case _ _ _ (known ks is y) ∙ ap (read s rank limit R h b A p) (idem s m p) ∙ x .alike m }
+    no {b = b} {ks = ks} y x = record { alike = λ m. no-case _ _ _ (ap (λ z. eqb z 59) is ∙ real) ∙ no-case _ _ _ (known ks is y) ∙ ap (read s rank limit R h b A p) (reached-twice s m p 2) ∙ x .alike m }
 
   -- a token that begins a suffix is of one of six kinds
   six : {B : Type 0} → Among s first-suffix p → (kind s p ≡ Dot → B) → (kind s p ≡ LeftBracket → B) → (kind s p ≡ Colon → B)

@@ -17,7 +17,8 @@ use Rattle.grammar.proofs.Derives.{Phrases, Derives}
 use Rattle.grammar.specs.Reading.{Held, hold, startOf}
 use Rattle.grammar.specs.Reading.{Out, fine, fail, Reader, Readers, add, then, leads, keep, misfit, wrap, loop, read, reach}
 use Rattle.grammar.proofs.Sound.{Fits, Sound, fits-map, sound, sound-loop}
-use Rattle.grammar.proofs.Forward.{and-left, and-right, Moves, Steps, moves}
+use Rattle.grammar.proofs.Tests.{and-left, and-right}
+use Rattle.grammar.proofs.Forward.{Moves, Steps, moves}
 
 abbrev pub bit : Bool → ℕ
 bit true = 1

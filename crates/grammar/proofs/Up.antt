@@ -25,7 +25,7 @@ use Rattle.grammar.specs.Grammar.{Among, Ends, first-exp, first-suffix, 
 use Rattle.grammar.specs.Grammar as G
 use Rattle.grammar.proofs.Derives.{Phrases, Derives}
 use Rattle.grammar.proofs.Derives.{empty′, expect′, any′, leaf′, weigh′, coded′, plus′, exp′, operand′, stat′, seq′, this′, that′, above′, below′, node′, lead′, held′, kept′, iter′, again′}
-use Rattle.grammar.proofs.Forward.{wrong, or-elim}
+use Rattle.grammar.proofs.Tests.{wrong, or-elim}
 use Rattle.grammar.proofs.Sets.{disjoint, subset, known, apart, within, only}
 use Rattle.grammar.proofs.Lower.{Lower, stat-tokens, retree, before}
 use Rattle.grammar.proofs.Turns.{stops, exp-turn, stat-turn, param-turn, field-turn, suffix-turn, elseif-turn, name-turn, fieldname-turn, target-turn}
@@ -35,7 +35,7 @@ use Rattle.grammar.proofs.Shapes.{last-var, last-call}
 abbrev pub block-ends : List ℕ
 block-ends = EndOfStream ∷ Else ∷ ElseIf ∷ End ∷ Until ∷ []
 
-abbrev pub field-ends : List ℕ
+abbrev field-ends : List ℕ
 field-ends = Comma ∷ SemiColon ∷ RightBrace ∷ []
 
 -- a known kind is the one of a list of one; a kind of a list is none that isn't in it

@@ -22,7 +22,7 @@ pub glyph-high : (d : ℕ) → 10 ≤ d → glyph d ≡ 97 + (d - 10)
 unfolding glyph
 glyph-high d h = rw (glyph, le-ltb d 10 h)
 
-pub glyph-one : (a b : ℕ) → a < 16 → b < 16 → glyph a ≡ glyph b → a ≡ b
+glyph-one : (a b : ℕ) → a < 16 → b < 16 → glyph a ≡ glyph b → a ≡ b
 glyph-one a b f g e =
     by-cases (decLt a 10)
     (λ h. by-cases (decLt b 10) (λ k. omega (arith, glyph-low a h, glyph-low b k)) (λ k. omega (arith, glyph-low a h, glyph-high b (omega arith))))
@@ -37,7 +37,7 @@ pub length-field : (k n e : ℕ) → length (field k n e) ≡ suc k
 length-field k n e = omega (arith, length-append (hex k n) (e ∷ []), length-hex k n)
 
 -- one digit more
-pub hex-more : (k v d : ℕ) → d < 16 → hex (suc k) (v * 16 + d) ≡ hex k v ++ glyph d ∷ []
+hex-more : (k v d : ℕ) → d < 16 → hex (suc k) (v * 16 + d) ≡ hex k v ++ glyph d ∷ []
 unfolding hex
 hex-more k v d h =
     let q : (v * 16 + d) / 16 ≡ v = omega arith in
@@ -45,7 +45,7 @@ hex-more k v d h =
     ap (λ (x : ℕ). hex k x ++ glyph ((v * 16 + d) % 16) ∷ []) q ∙ ap (λ (x : ℕ). hex k v ++ glyph x ∷ []) r
 
 -- each byte is a digit's
-pub hex-at : (k n i : ℕ) → i < k → (d : ℕ) × (d < 16) × (getD (hex k n) i 0 ≡ glyph d)
+hex-at : (k n i : ℕ) → i < k → (d : ℕ) × (d < 16) × (getD (hex k n) i 0 ≡ glyph d)
 unfolding hex
 hex-at zero n i h = absurd (omega arith)
 hex-at (suc k) n i h =

@@ -6,7 +6,7 @@ use native.Mathlib.Nat.{add-zero}
 use native.Mathlib.Omega.{arith}
 use lib.ListN.{length, drop, length-append, length-drop}
 use lib.Seq.{sets, length-sets}
-use Rattle.lines.specs.Lines.{field, Line, line, Fits, AllFit, none, more, shown, show, fours, words, shownAnswer, Taken, NoLine}
+use Rattle.lines.specs.Lines.{field, Line, line, Fits, AllFit, none, more, shown, each, show, fours, words, shownAnswer, Taken, NoLine}
 use Rattle.lines.proofs.Hex.{length-field, past, put-after}
 
 pub assoc4 : (a b c d m : List ℕ) → (a ++ (b ++ (c ++ d))) ++ m ≡ a ++ (b ++ (c ++ (d ++ m)))
@@ -34,7 +34,7 @@ length-shown (line k p l a) =
     )
 
 -- where its numbers stand
-pub line-parts : (text : List ℕ) (at k p l a : ℕ) (m : List ℕ) → drop at text ≡ shown (line k p l a) ++ m
+line-parts : (text : List ℕ) (at k p l a : ℕ) (m : List ℕ) → drop at text ≡ shown (line k p l a) ++ m
     → ((m₁ : List ℕ) × (drop at text ≡ field 2 k 32 ++ m₁)) × ((m₂ : List ℕ) × (drop (at + 3) text ≡ field 16 p 32 ++ m₂))
     × ((m₃ : List ℕ) × (drop (at + 20) text ≡ field 8 l 32 ++ m₃)) × (drop (at + 29) text ≡ field 8 a 10 ++ m)
 unfolding shown
@@ -89,13 +89,9 @@ pub length-words : (ls : List Line) → length (words ls) ≡ length ls * 4
 length-words [] = refl
 length-words (l ∷ ls) = omega (arith, length-append (fours l) (words ls), length-fours l, length-words ls)
 
-pub words-more : (ls : List Line) (l : Line) → words (ls ++ l ∷ []) ≡ words ls ++ fours l
-words-more [] l = append-nil (fours l)
-words-more (k ∷ ls) l = ap (λ (x : List ℕ). fours k ++ x) (words-more ls l) ∙ sym (append-assoc (fours k) (words ls) (fours l))
-
-pub show-more : (ls : List Line) (l : Line) → show (ls ++ l ∷ []) ≡ show ls ++ shown l
-show-more [] l = append-nil (shown l)
-show-more (k ∷ ls) l = ap (λ (x : List ℕ). shown k ++ x) (show-more ls l) ∙ sym (append-assoc (shown k) (show ls) (shown l))
+pub each-more : (f : Line → List ℕ) (ls : List Line) (l : Line) → each f (ls ++ l ∷ []) ≡ each f ls ++ f l
+each-more f [] l = append-nil (f l)
+each-more f (k ∷ ls) l = ap (λ (x : List ℕ). f k ++ x) (each-more f ls l) ∙ sym (append-assoc (f k) (each f ls) (f l))
 
 pub taken-more : (ls : List Line) (l : Line) (n most : ℕ) (s : List ℕ) {s₁ s₂ : List ℕ} → Taken ls n most s s₁ → n < most → Fits l
     → s₂ ≡ sets s₁ (n * 4) (fours l) → Taken (ls ++ l ∷ []) (n + 1) most s s₂
@@ -107,12 +103,12 @@ taken-more ls l n most s t h f e =
       few = omega arith;
       stored =
           put-after s 0 (n * 4) (words ls) (fours l) (omega (arith, length-words ls)) (t .stored) e
-          ∙ ap (λ (x : List ℕ). sets s 0 x) (sym (words-more ls l));
+          ∙ ap (λ (x : List ℕ). sets s 0 x) (sym (each-more fours ls l));
     }
 
 pub text-more : (ls : List Line) (l : Line) (text d e : List ℕ) → text ≡ show ls ++ d → d ≡ shown l ++ e → text ≡ show (ls ++ l ∷ []) ++ e
 text-more ls l text d e a b =
-    a ∙ ap (λ (x : List ℕ). show ls ++ x) b ∙ sym (append-assoc (show ls) (shown l) e) ∙ ap (λ (x : List ℕ). x ++ e) (sym (show-more ls l))
+    a ∙ ap (λ (x : List ℕ). show ls ++ x) b ∙ sym (append-assoc (show ls) (shown l) e) ∙ ap (λ (x : List ℕ). x ++ e) (sym (each-more shown ls l))
 
 -- something is left, or nothing
 pub rest-some : (text : List ℕ) (at : ℕ) → at < length text → drop at text ≡ [] → ⊥

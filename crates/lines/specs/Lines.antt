@@ -37,17 +37,20 @@ pub data AllFit : List Line → Type 0 where
 unfoldable pub shown : Line → List ℕ
 shown (line k p l a) = field 2 k 32 ++ (field 16 p 32 ++ (field 8 l 32 ++ field 8 a 10))
 
+-- some lines, one after another
+abbrev pub each : (Line → List ℕ) → List Line → List ℕ
+each f [] = []
+each f (l ∷ ls) = f l ++ each f ls
+
 abbrev pub show : List Line → List ℕ
-show [] = []
-show (l ∷ ls) = shown l ++ show ls
+show = each shown
 
 -- a record's four words
 abbrev pub fours : Line → List ℕ
 fours (line k p l a) = k ∷ p ∷ l ∷ a ∷ []
 
 abbrev pub words : List Line → List ℕ
-words [] = []
-words (l ∷ ls) = fours l ++ words ls
+words = each fours
 
 -- the 45 bytes of an answer
 unfoldable pub shownAnswer : (a b c d e : ℕ) → List ℕ

@@ -14,7 +14,7 @@ use Rattle.operators.specs.declared.Ranking.{Ranking}
 use Rattle.operators.specs.declared.Ranking.the-variants.{Crate, Manual}
 
 -- the first row of a kind is its row
-pub find-here : (k : ℕ) (x : Row) (xs : List Row) → k ≡ x .kind → find k (x ∷ xs) ≡ x
+find-here : (k : ℕ) (x : Row) (xs : List Row) → k ≡ x .kind → find k (x ∷ xs) ≡ x
 unfolding find
 find-here k x xs e = rw (find, eq-eqb _ _ e)
 
@@ -43,15 +43,16 @@ rule t k (x ∷ xs) (y ∷ ys) e d =
     (λ q. rw (find-here k x xs q, find-here k y ys (q ∙ s)) (b .0))
     (λ n. rw (find-later k x xs n, find-later k y ys (λ q. n (q ∙ sym s))) (rule t k xs ys (b .1) d))
 
-same : (a b : Bool) → Bool·beq a b ≡ true → a ≡ b
-same true true e = refl
-same false false e = refl
-same true false e = sym e
-same false true e = e
+-- two answers that are the same
+pub beq-at : (a b : Bool) → Bool·beq a b ≡ true → a ≡ b
+beq-at true true e = refl
+beq-at false false e = refl
+beq-at true false e = sym e
+beq-at false true e = e
 
 -- the two rankings rank the same operators
 pub same-operators : (k : ℕ) → ltb 0 (crate .left k) ≡ ltb 0 (manual .left k)
-same-operators k = same _ _ (rule (λ x y. Bool·beq (ltb 0 (x .left)) (ltb 0 (y .left))) k (binary 10) (binary 3) refl refl)
+same-operators k = beq-at _ _ (rule (λ x y. Bool·beq (ltb 0 (x .left)) (ltb 0 (y .left))) k (binary 10) (binary 3) refl refl)
 
 -- what a lookup answers, taken apart
 answered : (x : Row) (c : ℕ) (t : Bool) → ltb 0 (x .left) ≡ t → operator x ≡ Found c → (0 < x .left) × (x .code ≡ c)

@@ -18,10 +18,9 @@ use Rattle.grammar.specs.Reading.{Out, fine, fail, Reader, Held, hold, leads, l
 use Rattle.grammar.specs.Productions.{expression, statement, ifstat, whilestat, dostat, forstat, repeatstat, functionstat, localfunction, localstat, label, breakstat, gotostat, exprstat}
 use Rattle.grammar.specs.Productions.{explist, block, retstat, funcbody, parlist, suffixed, suffix, primary, args, table, field}
 use Rattle.grammar.specs.Levels.{readers}
-use Rattle.grammar.proofs.Forward.{wrong}
+use Rattle.grammar.proofs.Tests.{wrong, yes-case, no-case}
 use Rattle.grammar.proofs.Form.{wellmade, guarded}
 use Rattle.grammar.proofs.Levels.{turn}
-use Rattle.grammar.proofs.Complete.{yes-case, no-case}
 use Rattle.grammar.proofs.Stable.{stable, settle}
 use Rattle.parser.specs.Contract.{Fine, under, says, again}
 use Rattle.parser.proofs.Kit.{add-none}

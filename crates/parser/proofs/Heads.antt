@@ -23,7 +23,7 @@ use Rattle.operators.proofs.Laws.{find-later, rule, binary-left}
 use Rattle.grammar.specs.Term.{Term, here, unlined, any, plus, exp, _⨾_, operator as operator′, node}
 use Rattle.grammar.specs.Reading.{Out, Reader, Readers, Held, read}
 use Rattle.grammar.specs.Productions.{simple, head}
-use Rattle.grammar.proofs.Complete.{yes-case, no-case}
+use Rattle.grammar.proofs.Tests.{yes-case, no-case}
 use Rattle.parser.proofs.Steps.{saw, ran-out}
 use Rattle.parser.proofs.Looks.{Row, pick, by-kind, by-others}
 

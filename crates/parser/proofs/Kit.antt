@@ -21,23 +21,13 @@ use Rattle.tree.proofs.Lay.{size-join, join-assoc, lay-join, lay-tree}
 use Rattle.grammar.specs.Term.{Line, unlined}
 use Rattle.grammar.specs.Reading.{Out, fine, fail, Reader, add, then, wrap, lineOf}
 use Rattle.quarrel.specs.Notes.{noted, held, hears, fresh, resumed}
-use Rattle.parser.specs.Contract.{Ready, Fined, Fine, Meeting, Meets, Sums, Closes, Ordinary, chained, counts, begins, backs}
+use Rattle.quarrel.proofs.Added.{noted-join, noted-tree}
+use Rattle.parser.specs.Contract.{Ready, Fined, Fine, Meets, Sums, Closes, Ordinary, chained, counts, begins, backs}
 use Rattle.parser.specs.declared.Step.{Step}
 use Rattle.parser.specs.declared.Step.the-variants.{Done, Fail}
 use Rattle.parser.specs.declared.Sum.{Sum}
 use Rattle.parser.specs.declared.Sum.the-variants as Sum·
 use Rattle.parser.proofs.Steps.{Advanced}
-
--- what trees add to a note, one after the other; and a record that is no expression, no tail and no unary operator
-pub noted-join : (s : List ℕ) (t u : Forest) (q : Note) → noted s (join t u) q ≡ noted s u (noted s t q)
-noted-join s none u q = refl
-noted-join s (tree tag v l i k r) u q = noted-join s r u _
-
-pub noted-tree : (s : List ℕ) (tag v l i : ℕ) (k r : Forest) (q : Note) → Ordinary tag → noted s (tree tag v l i k r) q ≡ noted s r (noted s k q)
-noted-tree s tag v l i k r q y = ap (noted s r) (out _ _ _ (y .0) ∙ out _ _ _ (y .1) ∙ out _ _ _ (y .2))
-  where
-    out : (x : Bool) (m n : Note) → x ≡ false → elim x as (λ z. Note) [ true ↦ m | false ↦ n ] ≡ n
-    out x m n e = ap (λ (z : Bool). elim z as (λ z. Note) [ true ↦ m | false ↦ n ]) e
 
 -- trees and values before what is read
 pub add-none : (o : Out) → add none 0 o ≡ o
@@ -227,20 +217,26 @@ pub onward-sum : {s : List ℕ} {q : Note} {low low′ used more : ℕ} {n n₁ 
 onward-sum start more′ n₂ f x (Sum·.Done d w v) y l b = (revalue (omega arith) (both f x (y .0) l), omega (arith, y .1))
 onward-sum start more′ n₂ f x (Sum·.Fail e) y l b = past f x y
 
--- a record over what was read, which stands behind it
+-- a record over what was read, which stands behind it: whatever that added to a note, and whatever the record does
+laid-over : {w w′ : Forest → Note → Note} {s : List ℕ} {q q′ : Note} {low used more : ℕ} {n n₁ n₂ : List ℕ} {o : Out} {c : Cursor} {u v : ℕ} (tag : ℕ) (l : Line) (i line : ℕ) (d : Cursor) → d .place ≡ c .place → d .mark ≡ c .mark
+    → (f : Fined w′ s q′ low (used + 1) more n n₁ o c u v) → n₂ ≡ sets n₁ (used * 4) (words tag v line (u - used)) → line ≡ lineOf s l i (c .place)
+    → d .note ≡ w (tree tag v (lineOf s l i (c .place)) i (f .trees) none) q → Fined w s q low used more n n₂ (wrap s tag l i o) d u 0
+laid-over {s = s} {used = used} {n = n} {n₁ = n₁} {c = c} {u = u} {v = v} tag l i line d p m f e x y =
+    let t = tree tag v (lineOf s l i (c .place)) i (f .trees) none in
+    record {
+      trees = t;
+      says = ap (wrap s tag l i) (f .says) ∙ sym (ap (λ (z : ℕ). fine z (d .mark) t 0) p ∙ ap (λ (z : ℕ). fine (c .place) z t 0) m);
+      grown = omega (arith, f .grown);
+      laid = lay-tree n n₁ used tag v (lineOf s l i (c .place)) (u - used) i (f .trees) (f .laid) (e ∙ ap (λ (z : ℕ). sets n₁ (used * 4) (words tag v z (u - used))) x) (omega (arith, f .grown));
+      at = omega (arith, f .at, p);
+      later = omega (arith, f .later, p);
+      room = omega (arith, f .room, p);
+      noted = y;
+    }
+
 pub over : {s : List ℕ} {q : Note} {low used more : ℕ} {n n₁ n₂ : List ℕ} {o : Out} {c : Cursor} {u v : ℕ} (tag : ℕ) (l : Line) (i line : ℕ) → Ordinary tag → Fine s q low (used + 1) more n n₁ o c u v
     → n₂ ≡ sets n₁ (used * 4) (words tag v line (u - used)) → line ≡ lineOf s l i (c .place) → Fine s q low used more n n₂ (wrap s tag l i o) c u 0
-over {s} {q} {used = used} {n = n} {n₁ = n₁} {c = c} {u = u} {v = v} tag l i line y f e p =
-    record {
-      trees = tree tag v (lineOf s l i (c .place)) i (f .trees) none;
-      says = ap (wrap s tag l i) (f .says);
-      grown = omega (arith, f .grown);
-      laid = lay-tree n n₁ used tag v (lineOf s l i (c .place)) (u - used) i (f .trees) (f .laid) (e ∙ ap (λ (z : ℕ). sets n₁ (used * 4) (words tag v z (u - used))) p) (omega (arith, f .grown));
-      at = f .at;
-      later = f .later;
-      room = f .room;
-      noted = f .noted ∙ sym (noted-tree s tag v (lineOf s l i (c .place)) i (f .trees) none q y);
-    }
+over {s} {q} {c = c} {v = v} tag l i line y f e p = laid-over tag l i line c refl refl f e p (f .noted ∙ sym (noted-tree s tag v (lineOf s l i (c .place)) i (f .trees) none q y))
 
 -- a record over two parts and a look, which is what closes it
 pub closed : {s : List ℕ} {q : Note} {low low′ more more′ : ℕ} {n n₁ n₂ : List ℕ} {o : Out} {c d : Cursor} {u w v v′ : ℕ} (used more″ tag value : ℕ) (l : Line) (i line : ℕ) → Ordinary tag → (n₃ : List ℕ) (f g : Reader)
@@ -258,17 +254,7 @@ Holds tag s q i = elim (eqb tag 19) as (λ z. Note) [ true ↦ hears q (kind s i
 pub over-held : {s : List ℕ} {low used more : ℕ} {n n₁ n₂ : List ℕ} {o : Out} {c : Cursor} {u v : ℕ} (tag : ℕ) (q : Note) (l : Line) (i line : ℕ)
     → ((v l : ℕ) (k : Forest) → noted s (tree tag v l i k none) q ≡ held s k (Holds tag s q i)) → Fined (held s) s (Holds tag s q i) low (used + 1) more n n₁ o c u v
     → n₂ ≡ sets n₁ (used * 4) (words tag v line (u - used)) → line ≡ lineOf s l i (c .place) → Fine s q low used more n n₂ (wrap s tag l i o) c u 0
-over-held {s} {used = used} {n = n} {n₁ = n₁} {c = c} {u = u} {v = v} tag q l i line y f e p =
-    record {
-      trees = tree tag v (lineOf s l i (c .place)) i (f .trees) none;
-      says = ap (wrap s tag l i) (f .says);
-      grown = omega (arith, f .grown);
-      laid = lay-tree n n₁ used tag v (lineOf s l i (c .place)) (u - used) i (f .trees) (f .laid) (e ∙ ap (λ (z : ℕ). sets n₁ (used * 4) (words tag v z (u - used))) p) (omega (arith, f .grown));
-      at = f .at;
-      later = f .later;
-      room = f .room;
-      noted = f .noted ∙ sym (y v (lineOf s l i (c .place)) (f .trees));
-    }
+over-held {s} {c = c} {v = v} tag q l i line y f e p = laid-over tag l i line c refl refl f e p (f .noted ∙ sym (y v (lineOf s l i (c .place)) (f .trees)))
 
 -- what is read under a limit that is not 0 is an operand
 pub held-of : {s : List ℕ} {q : Note} {low used more : ℕ} {n n′ : List ℕ} {o : Out} {c : Cursor} {u v : ℕ} (limit : ℕ) → eqb limit 0 ≡ false → Fined (counts s limit) s q low used more n n′ o c u v → Fined (held s) s q low used more n n′ o c u v
@@ -277,17 +263,7 @@ held-of {s} {q} limit e f = record { trees = f .trees; says = f .says; grown = f
 -- an expression's record over what has no operators of its own
 pub over-own : {s : List ℕ} {q : Note} {low used more : ℕ} {n n₁ n₂ : List ℕ} {o : Out} {c : Cursor} {u v : ℕ} (i : ℕ) (f : Fine s q low (used + 1) more n n₁ o c u v) → noted s (f .trees) q ≡ resumed q (noted s (f .trees) (fresh q))
     → n₂ ≡ sets n₁ (used * 4) (words 17 v 0 (u - used)) → Fine s q low used more n n₂ (wrap s 17 unlined i o) c u 0
-over-own {s} {q} {used = used} {n = n} {n₁ = n₁} {c = c} {u = u} {v = v} i f y w =
-    record {
-      trees = tree 17 v 0 i (f .trees) none;
-      says = ap (wrap s 17 unlined i) (f .says);
-      grown = omega (arith, f .grown);
-      laid = lay-tree n n₁ used 17 v 0 (u - used) i (f .trees) (f .laid) w (omega (arith, f .grown));
-      at = f .at;
-      later = f .later;
-      room = f .room;
-      noted = f .noted ∙ y;
-    }
+over-own {c = c} i f y w = laid-over 17 unlined i 0 c refl refl f w refl (f .noted ∙ y)
 
 -- an expression's record: it has a chain of its own, or goes on with the one that it stands in
 begun-place : (x : Bool) (c : Cursor) → begins x c .place ≡ c .place
@@ -298,6 +274,14 @@ begun-mark : (x : Bool) (c : Cursor) → begins x c .mark ≡ c .mark
 begun-mark true c = refl
 begun-mark false c = refl
 
+backed-place : (x : Bool) (o c : Cursor) → backs x o c .place ≡ c .place
+backed-place true o c = refl
+backed-place false o c = refl
+
+backed-mark : (x : Bool) (o c : Cursor) → backs x o c .mark ≡ c .mark
+backed-mark true o c = refl
+backed-mark false o c = refl
+
 -- where the chain begins the reading is where it was
 pub begun-at : (x : Bool) (c b : Cursor) → b ≡ begins x c → b .place ≡ c .place
 begun-at x c b e = ap (λ (z : Cursor). z .place) e ∙ begun-place x c
@@ -307,25 +291,10 @@ begun-reads x c b f e = sym (ap (λ (z : Cursor). f (z .place) (z .mark)) e ∙ 
 
 pub over-expression : {s : List ℕ} {low used more : ℕ} {n n₁ n₂ : List ℕ} {o : Out} {e : Cursor} {u v : ℕ} (x : Bool) (c b d : Cursor) (i : ℕ) → b ≡ begins x c → d ≡ backs x c e
     → Fine s (b .note) low (used + 1) more n n₁ o e u v → n₂ ≡ sets n₁ (used * 4) (words 17 v 0 (u - used)) → Fined (chained x s) s (c .note) low used more n n₂ (wrap s 17 unlined i o) d u 0
-over-expression {s} {used = used} {n = n} {n₁ = n₁} {e = e} {u = u} {v = v} true c b d i p r f w =
-    record {
-      trees = tree 17 v 0 i (f .trees) none;
-      says = ap (wrap s 17 unlined i) (f .says) ∙ sym (ap (λ (z : Cursor). fine (z .place) (z .mark) (tree 17 v 0 i (f .trees) none) 0) r);
-      grown = omega (arith, f .grown);
-      laid = lay-tree n n₁ used 17 v 0 (u - used) i (f .trees) (f .laid) w (omega (arith, f .grown));
-      at = let y = ap (λ (z : Cursor). z .place) r in omega (arith, f .at, y);
-      later = let y = ap (λ (z : Cursor). z .place) r in omega (arith, f .later, y);
-      room = let y = ap (λ (z : Cursor). z .place) r in omega (arith, f .room, y);
-      noted = ap (λ (z : Cursor). z .note) r ∙ ap (resumed (c .note)) (f .noted ∙ ap (λ (z : Cursor). noted s (f .trees) (z .note)) p);
-    }
-over-expression {s} {used = used} {n = n} {n₁ = n₁} {e = e} {u = u} {v = v} false c b d i p r f w =
-    record {
-      trees = tree 17 v 0 i (f .trees) none;
-      says = ap (wrap s 17 unlined i) (f .says) ∙ sym (ap (λ (z : Cursor). fine (z .place) (z .mark) (tree 17 v 0 i (f .trees) none) 0) r);
-      grown = omega (arith, f .grown);
-      laid = lay-tree n n₁ used 17 v 0 (u - used) i (f .trees) (f .laid) w (omega (arith, f .grown));
-      at = let y = ap (λ (z : Cursor). z .place) r in omega (arith, f .at, y);
-      later = let y = ap (λ (z : Cursor). z .place) r in omega (arith, f .later, y);
-      room = let y = ap (λ (z : Cursor). z .place) r in omega (arith, f .room, y);
-      noted = ap (λ (z : Cursor). z .note) r ∙ f .noted ∙ ap (λ (z : Cursor). noted s (f .trees) (z .note)) p;
-    }
+over-expression {s} {low} {used} {more} {n} {n₁} {n₂} {o} {e} {u} {v} x c b d i p r f w =
+    laid-over 17 unlined i 0 d (ap (λ (z : Cursor). z .place) r ∙ backed-place x c e) (ap (λ (z : Cursor). z .mark) r ∙ backed-mark x c e) f w refl
+    (ap (λ (z : Cursor). z .note) r ∙ backed-note x (f .trees) (f .noted ∙ ap (λ (z : Cursor). noted s (f .trees) (z .note)) p))
+  where
+    backed-note : (x : Bool) (k : Forest) → e .note ≡ noted s k (begins x c .note) → backs x c e .note ≡ chained x s (tree 17 v 0 i k none) (c .note)
+    backed-note true k y = ap (resumed (c .note)) y
+    backed-note false k y = y

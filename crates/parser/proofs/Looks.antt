@@ -4,13 +4,13 @@ use mathlib.Core.Path.{_≡_, refl, sym, ap, _∙_, subst}
 use mathlib.Core.List.{List, [], _∷_}
 use mathlib.Core.Bool.{Bool, true, false}
 use mathlib.Core.Logic.{by-cases}
-use Prim.Native.Nat.{ℕ, _+_, _*_, _≤_, max, min}
+use Prim.Native.Nat.{ℕ, _+_, _*_, _≤_}
 use native.Mathlib.Decide.{ℕ-discrete}
 use native.Mathlib.Nat.{add-zero}
 use native.Mathlib.Omega.{arith}
 use borrow.Author.Tests.{ne-eqb}
 use lib.Dec.{eqb}
-use Rattle.stream.specs.Words.{records, kind}
+use Rattle.stream.specs.Words.{kind}
 use Rattle.stream.specs.Formed.{Formed}
 use Rattle.stream.specs.Reader.{reached, readAhead, tokenAt, passed, expecting, getNext, takeNext, expectNext, lookAhead}
 use Rattle.stream.specs.declared.reader.Cursor.{Cursor}
@@ -20,7 +20,7 @@ use Rattle.stream.specs.declared.reader.Refusal.{Refusal}
 use Rattle.stream.specs.declared.reader.Next.{Next}
 use Rattle.stream.specs.declared.reader.Next.the-variants.{Took, Fail}
 use Rattle.stream.specs.declared.reader.Look.the-variants.{Seen, End}
-use Rattle.stream.proofs.Reading.{get-end, get-token, take-end, take-token, look-end, look-token}
+use Rattle.stream.proofs.Reading.{reached-twice, get-end, get-token, take-end, take-token, look-end, look-token}
 use Rattle.operators.specs.Ranks.{Ranks}
 use Rattle.operators.specs.declared.Ranking.{Ranking}
 use Rattle.tree.specs.Forest.{none}
@@ -28,7 +28,7 @@ use Rattle.grammar.specs.Member.{member}
 use Rattle.grammar.specs.Term.{Term, next, any, _⨾_, on, refuse}
 use Rattle.grammar.specs.Reading.{Out, fine, fail, Reader, Readers, Held, then, ended, read}
 use Rattle.grammar.specs.Productions.{word, look}
-use Rattle.grammar.proofs.Complete.{no-case}
+use Rattle.grammar.proofs.Tests.{no-case}
 use Rattle.parser.specs.Contract.{Fine, Meets, Sums, says, stepped, counting}
 use Rattle.parser.specs.declared.Step.{Step}
 use Rattle.parser.specs.declared.Sum.{Sum}
@@ -38,14 +38,8 @@ use Rattle.parser.proofs.Kit.{alter, lower, revalue, Going, fails, ends
 use Rattle.parser.proofs.Tokens.{word-fail, word-fine}
 
 module _ (s : List ℕ) where
-  reached-twice : (m p n : ℕ) → reached s (reached s m p n) p n ≡ reached s m p n
-  reached-twice m p n = max-twice m (min (p + n) (records s))
-    where
-      max-twice : (a b : ℕ) → max (max a b) b ≡ max a b
-      max-twice a b = omega arith
-
   twice : (c : Cursor) (n : ℕ) → readAhead s (readAhead s c n) n ≡ readAhead s c n
-  twice c n = ap (λ (z : ℕ). record { place = c .place; mark = z; note = c .note }) (reached-twice (c .mark) (c .place) (n + 1))
+  twice c n = ap (λ (z : ℕ). record { place = c .place; mark = z; note = c .note }) (reached-twice s (c .mark) (c .place) (n + 1))
 
   -- what was got is got again; what was seen is seen again; and so is the end
   pub got-again : (c : Cursor) {t : Token} {d : Cursor} → getNext s c ≡ Took t d → getNext s d ≡ Took t d
@@ -70,7 +64,7 @@ module _ (s : List ℕ) where
   module _ (rank : Ranks) (limit : ℕ) (R : Readers) (h : Held) (A : Reader) (p m : ℕ) where
     any-again : read s rank limit R h any A p (reached s m p 2) ≡ read s rank limit R h any A p m
     unfolding read
-    any-again = ap (λ (z : ℕ). elim (eqb (kind s p) 59) [ true ↦ ended s z 0 | false ↦ fine (p + 1) z none 0 ]) (reached-twice m p 2)
+    any-again = ap (λ (z : ℕ). elim (eqb (kind s p) 59) [ true ↦ ended s z 0 | false ↦ fine (p + 1) z none 0 ]) (reached-twice s m p 2)
 
     pub begins-again : (e : Term) → read s rank limit R h (any ⨾ e) A p (reached s m p 2) ≡ read s rank limit R h (any ⨾ e) A p m
     unfolding read
@@ -79,7 +73,7 @@ module _ (s : List ℕ) where
     pub on-again : (ks : List ℕ) (a b : Term) → read s rank limit R h (on next ks a b) A p (reached s m p 2) ≡ read s rank limit R h (on next ks a b) A p m
     unfolding read
     on-again ks a b =
-        ap (λ (z : ℕ). elim (eqb (kind s p) 59) [ true ↦ ended s z 0 | false ↦ elim (member (kind s p) ks) [ true ↦ read s rank limit R h a A p z | false ↦ read s rank limit R h b A p z ] ]) (reached-twice m p 2)
+        ap (λ (z : ℕ). elim (eqb (kind s p) 59) [ true ↦ ended s z 0 | false ↦ elim (member (kind s p) ks) [ true ↦ read s rank limit R h a A p z | false ↦ read s rank limit R h b A p z ] ]) (reached-twice s m p 2)
 
   -- taking is getting, and then taking
   module _ (c : Cursor) where

@@ -26,7 +26,7 @@ use Rattle.grammar.specs.Member.{member}
 use Rattle.grammar.specs.Term.{Term, ahead, next, check, second, any, on}
 use Rattle.grammar.specs.Reading.{Out, fine, fail, Reader, Readers, Held, read}
 use Rattle.grammar.specs.Productions.{word, named}
-use Rattle.grammar.proofs.Complete.{yes-case, no-case}
+use Rattle.grammar.proofs.Tests.{yes-case, no-case}
 
 or-false : (b : Bool) → (b || false) ≡ b
 or-false true = refl

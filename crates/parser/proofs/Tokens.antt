@@ -19,9 +19,10 @@ use Rattle.tree.specs.Forest.{none, tree, words}
 use Rattle.grammar.specs.Term.{Term, any, leaf, weigh, _⨾_}
 use Rattle.grammar.specs.Reading.{Out, fine, fail, Reader, Readers, Held, read}
 use Rattle.grammar.specs.Productions.{word, named}
+use Rattle.quarrel.proofs.Added.{noted-tree}
 use Rattle.parser.specs.Contract.{Ready, Fine, Ordinary}
 use Rattle.parser.proofs.Steps.{taken, Advanced, took-next, took-kind, took-name, word-is, any-is, name-is}
-use Rattle.parser.proofs.Kit.{noted-tree, passed, both}
+use Rattle.parser.proofs.Kit.{passed, both}
 
 -- what may be relied on after a token
 pub ready-after : {s : List ℕ} {c d : Cursor} {t : Token} {used slack : ℕ} → Formed s → Advanced s c t d → used ≤ 4 * c .place + (4 + slack) → Ready s d used slack

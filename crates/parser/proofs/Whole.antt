@@ -2,7 +2,6 @@
 use mathlib.Core.Path.{_≡_, refl, sym, ap, _∙_, subst}
 use mathlib.Core.Bool.{false}
 use mathlib.Core.List.{List}
-use mathlib.Core.Logic.{_⊎_}
 use Prim.Native.Nat.{ℕ, _*_, _≤_, _<_}
 use native.Mathlib.Omega.{arith}
 use borrow.Author.Tests.{eq-eqb, ne-eqb}
@@ -24,10 +23,10 @@ use Rattle.grammar.specs.Grammar.{Chunk}
 use Rattle.grammar.specs.Reading.{Out, fine, fail, hold, loop, read}
 use Rattle.grammar.specs.Productions.{block, retstat, explist}
 use Rattle.grammar.specs.Levels.{readers, finish, chunk}
-use Rattle.grammar.proofs.Complete.{yes-case, no-case}
-use Rattle.grammar.proofs.Theorems.{sound, complete, unique, is-ranked}
-use Rattle.quarrel.specs.Rule.{Quarrelling, First}
-use Rattle.quarrel.specs.Notes.{NONE, note, noted}
+use Rattle.grammar.proofs.Tests.{yes-case, no-case}
+use Rattle.grammar.proofs.Theorems.{sound, unique, is-ranked}
+use Rattle.grammar.proofs.Sides.{refused-none}
+use Rattle.quarrel.specs.Notes.{NONE, Names, note, noted}
 use Rattle.quarrel.proofs.Notes.{first-noted}
 use Rattle.parser.specs.Contract.{Fine, Meets, says}
 use Rattle.parser.specs.declared.Step.{Step}
@@ -83,10 +82,7 @@ module _ (s : List ℕ) (k : Ranking) where
         chunk-block ∙ ap (finish s) (f .says) ∙ no-case _ _ _ (ne-eqb _ _ (g .real))
         ∙ sym (ap (λ (z : Cursor). fail (record { number = 2; line = told s (z .mark); found = 0; expected = 0 })) (g .cursor))
 
-  -- no tree is derived where the reading refuses; where it accepts, its own alone
-  none-derived : {e : Refusal} {t : Forest} → chunk s (ranks k) 199 ≡ fail e → Chunk s (ranks k) 199 t → ⊥
-  none-derived x d = let z : _≡_ {A = ℕ} 0 1 = cc (complete s (ranks k) 199 (is-ranked k) d .1, x) in omega arith
-
+  -- where the reading accepts, its own tree alone is derived
   its-own : {p m v : ℕ} {t u : Forest} → chunk s (ranks k) 199 ≡ fine p m t v → Chunk s (ranks k) 199 u → t ≡ u
   its-own x d = unique s (ranks k) 199 (is-ranked k) (sound s (ranks k) 199 (is-ranked k) x) d
 
@@ -105,8 +101,8 @@ module _ (s : List ℕ) (k : Ranking) where
     answered-refused {e} f x z =
         record {
           malformed = λ q c. absurd (formed-not-malformed f c);
-          accepts = λ t g d. absurd (none-derived x d);
-          short = λ t g d. absurd (none-derived x d);
+          accepts = λ t g d. absurd (refused-none s k 199 x t d);
+          short = λ t g d. absurd (refused-none s k 199 x t d);
           refuses = λ e′ g m y. (let q : e ≡ e′ = cc (x, y) in ap refusing q, z);
         }
 
@@ -134,13 +130,12 @@ module _ (s : List ℕ) (k : Ranking) where
   noted-malformed b = record { derived = λ t f. absurd (formed-not-malformed f b); underived = λ n. refl; unformed = λ p m. refl }
 
   pub noted-refused : {e : Refusal} → chunk s (ranks k) 199 ≡ fail e → Noted s k NONE
-  noted-refused x = record { derived = λ t f d. absurd (none-derived x d); underived = λ n. refl; unformed = λ p m. refl }
+  noted-refused x = record { derived = λ t f d. absurd (refused-none s k 199 x t d); underived = λ n. refl; unformed = λ p m. refl }
 
   pub noted-read : (c : Cursor) {t : Forest} {first : ℕ} → Formed s → chunk s (ranks k) 199 ≡ fine (c .place) (c .mark) t 0 → c .note ≡ noted s t (note false NONE NONE) → first ≡ c .note .found → Noted s k first
   noted-read c {t = t} f x q e =
       record {
-        derived = λ u g d. subst (λ (z : ℕ). ((z ≡ NONE) × ((i : ℕ) → ¬ Quarrelling s u i)) ⊎ First s u z)
-            (sym (e ∙ ap (λ (z : Note). z .found) q ∙ ap (λ (z : Forest). noted s z (note false NONE NONE) .found) (its-own x d)))
+        derived = λ u g d. subst (Names s u) (sym (e ∙ ap (λ (z : Note). z .found) q ∙ ap (λ (z : Forest). noted s z (note false NONE NONE) .found) (its-own x d)))
             (first-noted s f (ranks k) 199 (is-ranked k) d);
         underived = λ n. absurd (n t (sound s (ranks k) 199 (is-ranked k) x));
         unformed = λ p b. absurd (formed-not-malformed f b);

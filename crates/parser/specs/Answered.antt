@@ -2,7 +2,6 @@
 use mathlib.Core.Path.{_≡_}
 use Prim.Native.Nat.{ℕ, _*_, _≤_, _<_}
 use mathlib.Core.List.{List, _++_}
-use mathlib.Core.Logic.{_⊎_}
 use lib.ListN.{length, drop, replicate}
 use Rattle.stream.specs.Formed.{Formed, Malformed}
 use Rattle.stream.specs.declared.reader.Refusal.{Refusal}
@@ -12,8 +11,7 @@ use Rattle.tree.specs.Forest.{Forest, size, flat}
 use Rattle.grammar.specs.Grammar.{Chunk}
 use Rattle.grammar.specs.Reading.{fail}
 use Rattle.grammar.specs.Levels.{chunk}
-use Rattle.quarrel.specs.Rule.{Quarrelling, First}
-use Rattle.quarrel.specs.Notes.{NONE}
+use Rattle.quarrel.specs.Notes.{NONE, Names}
 use Rattle.parser.specs.declared.Answer.{Answer}
 
 -- 01's numbers of a refusal, and of what is told by a count of words alone
@@ -37,6 +35,6 @@ pub record Answered (s : List ℕ) (r : Ranking) (n n′ : List ℕ) (a : Answer
 
 -- the first token that quarrels in the tree that is derived, or that none does; none, too, where none is derived or the stream is malformed
 pub record Noted (s : List ℕ) (r : Ranking) (first : ℕ) : Type 0 where
-  pub derived : (t : Forest) → Formed s → Chunk s (ranks r) 199 t → ((first ≡ NONE) × ((i : ℕ) → ¬ Quarrelling s t i)) ⊎ First s t first
+  pub derived : (t : Forest) → Formed s → Chunk s (ranks r) 199 t → Names s t first
   pub underived : ((t : Forest) → Chunk s (ranks r) 199 t → ⊥) → first ≡ NONE
   pub unformed : (p : ℕ) → Malformed s p → first ≡ NONE

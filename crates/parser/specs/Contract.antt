@@ -10,7 +10,6 @@ use Rattle.stream.specs.Words.{records}
 use Rattle.stream.specs.Formed.{Formed}
 use Rattle.stream.specs.declared.reader.Cursor.{Cursor}
 use Rattle.stream.specs.declared.reader.Note.{Note}
-use Rattle.stream.specs.declared.reader.Refusal.{Refusal}
 use Rattle.stream.specs.declared.reader.Next.{Next}
 use Rattle.stream.specs.declared.reader.Next.the-variants.{Took}
 use Rattle.stream.specs.declared.reader.Next.the-variants as Next·

@@ -245,7 +245,7 @@ fn parameters(stream: &[u64], nodes: &mut [u64], c: Cursor, used: usize) -> Sum
     }
 }
 
-// ['(' Name ..] of a definition: nothing where `)` comes next
+// [parlist] of a definition: nothing where `)` comes next
 fn parlist(stream: &[u64], nodes: &mut [u64], c: Cursor, used: usize) -> Sum
     requires { ⌜ Ready (now stream) c used 0 ⌝ }
     ensures { λ r. ⌜ ((k : Ranking) (h : ℕ) → Sums (now (stream .entry)) (c .note) (c .place) (c .place) used 0 (now (nodes .entry)) (now (nodes .exit)) (says (now (stream .entry)) k h (on check (RightParen ∷ []) empty parlist) c) r) ⌝ }

@@ -2,7 +2,7 @@
 -- Assumes nothing.
 use mathlib.Core.Path.{_≡_, refl, sym, _∙_, subst}
 use Prim.Native.Nat.{ℕ, suc, _≤_, _<_}
-use mathlib.Core.Bool.{Bool, true, false, _&&_}
+use mathlib.Core.Bool.{Bool, true, false}
 use mathlib.Core.List.{List, [], _∷_, _++_, append-assoc, append-nil}
 use mathlib.Core.Logic.{_↔_}
 use native.Mathlib.Omega.{arith}
@@ -11,10 +11,11 @@ use borrow.Author.Tests.{lt-ltb, le-ltb, ltb-true, ltb-false}
 use Rattle.stream.specs.Words.{kind}
 use Rattle.operators.specs.Ranks.{Ranks}
 use Rattle.tree.specs.Forest.{Forest, tree}
-use Rattle.grammar.proofs.Forward.{wrong, and-left, and-right}
-use Rattle.quarrel.specs.Chains.{Op, op, expression, unary, tail, operators, operand, chains, within, inner}
+use Rattle.grammar.proofs.Tests.{wrong, and-left, and-right, and-both, no-case}
+use Rattle.quarrel.specs.Chains.{Op, op, unary, tail, operators, operand, chains, within, inner}
 use Rattle.quarrel.proofs.Walks.{step, walk, same}
-use Rattle.quarrel.proofs.Fit.{Stop, Fit, Right, Fits, ends, tailed, signed, atom, right, nothing, whole, part}
+use Rattle.quarrel.proofs.Fit.{apart, Stop, Fit, Right, Fits, ends, tailed, signed, atom, right, nothing, whole, part}
+use Rattle.quarrel.proofs.Parts.{apart-tags}
 
 -- what is asked of a ranking
 pub record Lawful (rank : Ranks) : Type 0 where
@@ -62,21 +63,16 @@ over-high : (rank : Ranks) → Lawful rank → (l : ℕ) (xs : List Op) → l �
 over-high rank laws l [] h x = tt
 over-high rank laws l (o ∷ os) h x = (omega (arith, laws .high (o .sort) (x .0)), over-high rank laws l os h (x .1))
 
--- the operators and the chains of a first tree that is no tail and no unary operator, and of one that is no expression
-ops-atom : (s : List ℕ) (tag v n p : ℕ) (k r : Forest) → tail tag ≡ false → unary tag ≡ false → operators s (tree tag v n p k r) ≡ operators s r
-ops-atom s tag v n p k r h u = go (tail tag) (unary tag) h u
-  where
-    go : (b c : Bool) → b ≡ false → c ≡ false
-        → elim b as (λ z. List Op) [ true ↦ op s p ∷ operand s k ++ operators s r | false ↦ elim c as (λ z. List Op) [ true ↦ operand s k ++ operators s r | false ↦ operators s r ] ] ≡ operators s r
-    go true c x y = wrong (sym x)
-    go false true x y = wrong (sym y)
-    go false false x y = refl
+-- the operators and the chains of a first tree that is apart
+module _ (s : List ℕ) (tag v n p : ℕ) (k r : Forest) (h : apart tag ≡ true) where
+  ops-atom : operators s (tree tag v n p k r) ≡ operators s r
+  ops-atom = let e = apart-tags tag h in no-case (tail tag) _ _ (e .1) ∙ no-case (unary tag) _ _ (e .2)
 
-within-atom : (s : List ℕ) (tag v n p : ℕ) (k r : Forest) → tail tag ≡ false → unary tag ≡ false → within s (tree tag v n p k r) ≡ chains s k ++ within s r
-within-atom s tag v n p k r h u = rw (h, u) refl
+  within-atom : within s (tree tag v n p k r) ≡ chains s k ++ within s r
+  within-atom = let e = apart-tags tag h in rw (e .1, e .2) refl
 
-chains-part : (s : List ℕ) (tag v n p : ℕ) (k r : Forest) → expression tag ≡ false → chains s (tree tag v n p k r) ≡ chains s k ++ chains s r
-chains-part s tag v n p k r h = rw h refl
+  chains-part : chains s (tree tag v n p k r) ≡ chains s k ++ chains s r
+  chains-part = rw (apart-tags tag h .0) refl
 
 -- every operator of a tree that fits stands above the limit
 module _ (s : List ℕ) (rank : Ranks) (laws : Lawful rank) where
@@ -86,14 +82,10 @@ module _ (s : List ℕ) (rank : Ranks) (laws : Lawful rank) where
     over {l} b (tailed {p = p} {k = k} {r = r} a e x) =
         (a, over-join rank l (operand s k) (operators s r) (over-less rank l (rank .right (kind s p)) (operand s k) (omega (arith, laws .near (kind s p))) (over-right (laws .low (kind s p)) e)) (over b x))
     over {l} b (signed {k = k} {r = r} e x) = over-join rank l (operand s k) (operators s r) (over-high rank laws l (operand s k) b (over-right (omega arith) e)) (over b x)
-    over {l} b (atom {tag = tag} {v = v} {n = n} {p = p} {k = k} {r = r} h u e x) = subst (Over rank l) (sym (ops-atom s tag v n p k r h u)) (over b x)
+    over {l} b (atom {tag = tag} {v = v} {n = n} {p = p} {k = k} {r = r} h e x) = subst (Over rank l) (sym (ops-atom s tag v n p k r h)) (over b x)
 
     pub over-right : {l : ℕ} {t : Forest} {os : List Op} → l ≤ 13 → Right s rank l t os → Over rank l (operand s t)
     over-right b (right x) = over b x
-
-and-both : (a b : Bool) → a ≡ true → b ≡ true → (a && b) ≡ true
-and-both true b h k = k
-and-both false b h k = h
 
 step-same : (b w : Bool) → w ≡ true → step b b w ≡ true
 step-same true w h = h
@@ -143,7 +135,7 @@ module _ (s : List ℕ) (C M : Ranks) (laws : Lawful C) (laws′ : Lawful M) (ze
           sames = rw (append-assoc (operand s k) (operators s r) os) (and-both _ _ (z .walks) (z .sames));
           goods = all-join G (inner s k) (within s r) (z .goods) (y .goods);
         }
-    both b b′ (tailed a e x) (atom h′ u′ e′ x′) q = wrong (sym h′)
+    both b b′ (tailed a e x) (atom h′ e′ x′) q = wrong h′
     both {l} {l′} {os = os} b b′ (signed {k = k} {r = r} e x) (signed e′ x′) q =
         let y = both b b′ x x′ q in
         let z = both-right (omega arith) (omega arith) e e′ (y .sames) in
@@ -154,16 +146,16 @@ module _ (s : List ℕ) (C M : Ranks) (laws : Lawful C) (laws′ : Lawful M) (ze
           sames = rw (append-assoc (operand s k) (operators s r) os) (z .sames);
           goods = all-join G (inner s k) (within s r) (z .goods) (y .goods);
         }
-    both b b′ (signed e x) (atom h′ u′ e′ x′) q = wrong (sym u′)
-    both b b′ (atom h u e x) (tailed a′ e′ x′) q = wrong (sym h)
-    both b b′ (atom h u e x) (signed e′ x′) q = wrong (sym u)
-    both {l} {l′} {os = os} b b′ (atom {tag = tag} {v = v} {n = n} {p = p} {k = k} {r = r} h u e x) (atom h′ u′ e′ x′) q =
+    both b b′ (signed e x) (atom h′ e′ x′) q = wrong h′
+    both b b′ (atom h e x) (tailed a′ e′ x′) q = wrong h
+    both b b′ (atom h e x) (signed e′ x′) q = wrong h
+    both {l} {l′} {os = os} b b′ (atom {tag = tag} {v = v} {n = n} {p = p} {k = k} {r = r} h e x) (atom h′ e′ x′) q =
         let y = both b b′ x x′ q in
-        let o = sym (ops-atom s tag v n p k r h u) in
+        let o = sym (ops-atom s tag v n p k r h) in
         record {
           walks = subst (λ cs. Walk C M l l′ (cs ++ os)) o (y .walks);
           sames = subst (λ cs. Same C M (cs ++ os)) o (y .sames);
-          goods = subst (All G) (sym (within-atom s tag v n p k r h u)) (all-join G (chains s k) (within s r) (both-fits e e′) (y .goods));
+          goods = subst (All G) (sym (within-atom s tag v n p k r h)) (all-join G (chains s k) (within s r) (both-fits e e′) (y .goods));
         }
 
     both-right : {l l′ : ℕ} {t : Forest} {os : List Op} → l ≤ 13 → l′ ≤ 13 → Right s C l t os → Right s M l′ t os → Same C M os → Both l l′ os (operand s t) (inner s t)
@@ -174,8 +166,8 @@ module _ (s : List ℕ) (C M : Ranks) (laws : Lawful C) (laws′ : Lawful M) (ze
     both-fits (whole {k = k} {r = r} x y) (whole x′ y′) =
         let z = both (omega arith) (omega arith) x x′ refl in
         (good (operators s k) (over s C laws (omega arith) x) .0 (rw append-nil at (z .sames)), all-join G (within s k) (chains s r) (z .goods) (both-fits y y′))
-    both-fits (whole x y) (part h′ x′ y′) = wrong (sym h′)
-    both-fits (part h x y) (whole x′ y′) = wrong (sym h)
+    both-fits (whole x y) (part h′ x′ y′) = wrong h′
+    both-fits (part h x y) (whole x′ y′) = wrong h
     both-fits (part {tag = tag} {v = v} {n = n} {p = p} {k = k} {r = r} h x y) (part h′ x′ y′) =
         subst (All G) (sym (chains-part s tag v n p k r h)) (all-join G (chains s k) (chains s r) (both-fits x x′) (both-fits y y′))
 
@@ -218,10 +210,10 @@ module _ (s : List ℕ) (C M : Ranks) (laws : Lawful C) (laws′ : Lawful M) (ze
         let c = over-high C laws l (operand s k) b (over-right s C laws (omega arith) e) in
         let m = over-high M laws′ l′ (operand s k) b′ (over-right s M laws′ (omega arith) e′) in
         signed e′ (moved b b′ x (sym (skip C M l l′ (operand s k) (operators s r ++ os) c m) ∙ w′) (same-rest C M (operand s k) (operators s r ++ os) q′) (g′ .1))
-    moved {l} {l′} {os = os} b b′ (atom {tag = tag} {v = v} {n = n} {p = p} {k = k} {r = r} h u e x) w q g =
-        let o = ops-atom s tag v n p k r h u in
-        let g′ = all-parts G (chains s k) (within s r) (subst (All G) (within-atom s tag v n p k r h u) g) in
-        atom h u (moved-fits e (g′ .0)) (moved b b′ x (subst (λ cs. Walk C M l l′ (cs ++ os)) o w) (subst (λ cs. Same C M (cs ++ os)) o q) (g′ .1))
+    moved {l} {l′} {os = os} b b′ (atom {tag = tag} {v = v} {n = n} {p = p} {k = k} {r = r} h e x) w q g =
+        let o = ops-atom s tag v n p k r h in
+        let g′ = all-parts G (chains s k) (within s r) (subst (All G) (within-atom s tag v n p k r h) g) in
+        atom h (moved-fits e (g′ .0)) (moved b b′ x (subst (λ cs. Walk C M l l′ (cs ++ os)) o w) (subst (λ cs. Same C M (cs ++ os)) o q) (g′ .1))
 
     moved-right : {l l′ : ℕ} {t : Forest} {os : List Op} → l ≤ 13 → l′ ≤ 13 → Right s C l t os → Walk C M l l′ (operand s t ++ os) → Same C M (operand s t ++ os) → All G (inner s t) → Right s M l′ t os
     moved-right b b′ (right x) w q g = right (moved b b′ x w q g)

@@ -14,7 +14,7 @@ use Rattle.grammar.specs.Reading.{Held}
 use Rattle.grammar.specs.Productions.{simple, head, tail, tails, expression}
 use Rattle.grammar.proofs.Derives.{Phrases, Derives, Alone, phrases, Chunk}
 use Rattle.grammar.proofs.Derives.{empty′, expect′, any′, leaf′, weigh′, coded′, plus′, exp′, operand′, stat′, seq′, this′, that′, above′, below′, node′, lead′, held′, kept′, iter′, again′}
-use Rattle.grammar.proofs.Forward.{wrong, and-left, and-right, or-elim}
+use Rattle.grammar.proofs.Tests.{wrong, and-left, and-right, or-elim}
 use Rattle.grammar.proofs.Lower.{before}
 use Rattle.grammar.proofs.Made.{simple-closed}
 use Rattle.quarrel.specs.Chains.{Op, operators}
@@ -35,11 +35,11 @@ stop-next s rank l j (o ∷ os) n h = subst (λ k. rank .left k ≤ l) n h
 module _ (s : List ℕ) (rank : Ranks) {l v n p : ℕ} {k r : Forest} {os : List Op} where
   tail-in : Fit s rank l (tree 19 v n p k r) os → (l < rank .left (kind s p)) × Right s rank (rank .right (kind s p)) k (operators s r ++ os) × Fit s rank l r os
   tail-in (tailed a e x) = (a, e, x)
-  tail-in (atom h u e x) = wrong (sym h)
+  tail-in (atom h e x) = wrong h
 
   sign-in : Fit s rank l (tree 18 v n p k r) os → Right s rank 12 k (operators s r ++ os) × Fit s rank l r os
   sign-in (signed e x) = (e, x)
-  sign-in (atom h u e x) = wrong (sym u)
+  sign-in (atom h e x) = wrong h
 
 end-in : (s : List ℕ) (rank : Ranks) {l : ℕ} {os : List Op} → Fit s rank l none os → Stop rank l os
 end-in s rank (ends h) = h
@@ -49,10 +49,10 @@ right-in s rank (right x) = x
 
 whole-in : (s : List ℕ) (rank : Ranks) {v n p : ℕ} {k r : Forest} → Fits s rank (tree 17 v n p k r) → Fit s rank 0 k []
 whole-in s rank (whole x y) = x
-whole-in s rank (part h x y) = wrong (sym h)
+whole-in s rank (part h x y) = wrong h
 
 module _ (s : List ℕ) (rank rank′ : Ranks) (limit limit′ : ℕ) (P P′ : Phrases) (low : Across s rank rank′ P P′) where
-  pub carried : {h : Held} {b e : Term} {i j v : ℕ} {t : Forest} → fitting b ≡ true → fitting e ≡ true → Derives s rank limit P h b e i j t v → Fits s rank′ t → Derives s rank′ limit′ P′ h b e i j t v
+  carried : {h : Held} {b e : Term} {i j v : ℕ} {t : Forest} → fitting b ≡ true → fitting e ≡ true → Derives s rank limit P h b e i j t v → Fits s rank′ t → Derives s rank′ limit′ P′ h b e i j t v
   carried wb w empty′ x = empty′
   carried wb w (expect′ y) x = expect′ y
   carried wb w (any′ y) x = any′ y
@@ -115,7 +115,7 @@ module _ (s : List ℕ) (rank rank′ : Ranks) (limit limit′ : ℕ) (P P′ : 
   carried-head (that′ y (that′ y′ (that′ y″ (this′ y‴ d)))) u os n x = let z = carried-unary d u os n x in (that′ y (that′ y′ (that′ y″ (this′ y‴ (z .0)))), z .1)
   carried-head (that′ y (that′ y′ (that′ y″ (that′ y‴ d)))) u os n x = let z = carried-simple d u os n x in (that′ y (that′ y′ (that′ y″ (that′ y‴ (z .0)))), z .1)
 
-  pub carried-right : {i j v : ℕ} {t : Forest} (os : List Op) → Alone s rank limit P expression i j t v → Next s rank′ os j → Right s rank′ limit′ t os → Alone s rank′ limit′ P′ expression i j t v
+  carried-right : {i j v : ℕ} {t : Forest} (os : List Op) → Alone s rank limit P expression i j t v → Next s rank′ os j → Right s rank′ limit′ t os → Alone s rank′ limit′ P′ expression i j t v
   unfolding expression tails
   carried-right os (node′ (seq′ {u = u} x (iter′ d))) n y =
       let z = carried-head x u os (next-tail s rank limit P rank′ os n d) (right-in s rank′ y) in
@@ -127,7 +127,7 @@ module _ (s : List ℕ) (rank rank′ : Ranks) (none-too : (k : ℕ) → rank .l
   unfolding expression tails
   as-right {P} (node′ (seq′ x (iter′ {j = j} d))) y = (none-too (kind s j) (omega (arith, tail-ends s rank 0 P d)), right (whole-in s rank′ y))
 
-  pub across : (g : ℕ) → Across s rank rank′ (phrases s rank g) (phrases s rank′ g)
+  across : (g : ℕ) → Across s rank rank′ (phrases s rank g) (phrases s rank′ g)
   across zero = record { right-to = λ os d n y. absurd d; whole-to = λ d y. absurd d; stat-to = λ d y. absurd d }
   across (suc g) =
       let P = phrases s rank g in

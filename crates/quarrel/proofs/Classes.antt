@@ -1,15 +1,16 @@
 -- Lua's operators by class; their two rankings; the rule by which a `~=` quarrels, as a test; and: it passes if and only if each operator
 -- takes as many operators under both rankings. Assumes nothing.
 use Prim.Native.Nat.{ℕ, _<_}
-use mathlib.Core.Bool.{Bool, true, false, _&&_, _||_, not, cond, Bool·beq, false≢true}
+use mathlib.Core.Bool.{Bool, true, false, _&&_, _||_, not, cond, Bool·beq, false≢true, and-eq-true-iff}
 use mathlib.Core.List.{List, [], _∷_}
-use mathlib.Core.Path.{_≡_, refl, ap, _∙_}
+use mathlib.Core.Path.{_≡_, refl, ap, _∙_, subst}
 use lib.Dec.{eqb, ltb}
 use borrow.Author.Tests.{lt-ltb, eqb-true}
 use Rattle.stream.specs.Kinds as K
 use Rattle.operators.specs.Ranks.{Row, row, binary, find, ranks}
 use Rattle.operators.specs.declared.Ranking.the-variants.{Crate, Manual}
-use Rattle.operators.proofs.Laws.{each, rule, find-kind}
+use Rattle.operators.proofs.Laws.{each, rule, beq-at, find-kind}
+use Rattle.grammar.proofs.Tests.{imp, imp-at}
 use Rattle.quarrel.specs.Chains.{Op}
 use Rattle.quarrel.proofs.Walks.{Ranking, step, walk, same, takes}
 
@@ -150,28 +151,9 @@ clear b [] = true
 clear b (k ∷ s) = not (quarrel b k (second s)) && clear (hear b k) s
 
 -- tests of finitely many cases
-imp : Bool → Bool → Bool
-imp true b = b
-imp false b = true
-
-imp-at : (a b : Bool) → imp a b ≡ true → a ≡ true → b ≡ true
-unfolding imp
-imp-at true b h k = h
-imp-at false b h k = absurd (false≢true k)
-
-pub beq-at : (a b : Bool) → Bool·beq a b ≡ true → a ≡ b
-beq-at true true h = refl
-beq-at true false h = absurd (false≢true h)
-beq-at false true h = absurd (false≢true h)
-beq-at false false h = refl
-
 beq-refl : (a : Bool) → Bool·beq a a ≡ true
 beq-refl true = refl
 beq-refl false = refl
-
-pub and-at : (a b : Bool) → a && b ≡ true → (a ≡ true) × (b ≡ true)
-and-at true b h = (refl, h)
-and-at false b h = absurd (false≢true h)
 
 every : (Class → Bool) → Bool
 every f = f Or && (f And && (f Compare && (f NotEqual && (f BitOr && (f BitXor && (f BitAnd && (f Shift && (f Concat && (f Sum && (f Product && f Power))))))))))
@@ -179,17 +161,17 @@ every f = f Or && (f And && (f Compare && (f NotEqual && (f BitOr && (f BitXor &
 at : (f : Class → Bool) → every f ≡ true → (o : Class) → f o ≡ true
 unfolding every
 at f h o =
-    let a = and-at (f Or) _ h in
-    let b = and-at (f And) _ (a .1) in
-    let c = and-at (f Compare) _ (b .1) in
-    let d = and-at (f NotEqual) _ (c .1) in
-    let e = and-at (f BitOr) _ (d .1) in
-    let g = and-at (f BitXor) _ (e .1) in
-    let i = and-at (f BitAnd) _ (g .1) in
-    let j = and-at (f Shift) _ (i .1) in
-    let k = and-at (f Concat) _ (j .1) in
-    let l = and-at (f Sum) _ (k .1) in
-    let m = and-at (f Product) _ (l .1) in
+    let a = and-eq-true-iff (f Or) _ .0 h in
+    let b = and-eq-true-iff (f And) _ .0 (a .1) in
+    let c = and-eq-true-iff (f Compare) _ .0 (b .1) in
+    let d = and-eq-true-iff (f NotEqual) _ .0 (c .1) in
+    let e = and-eq-true-iff (f BitOr) _ .0 (d .1) in
+    let g = and-eq-true-iff (f BitXor) _ .0 (e .1) in
+    let i = and-eq-true-iff (f BitAnd) _ .0 (g .1) in
+    let j = and-eq-true-iff (f Shift) _ .0 (i .1) in
+    let k = and-eq-true-iff (f Concat) _ .0 (j .1) in
+    let l = and-eq-true-iff (f Sum) _ .0 (k .1) in
+    let m = and-eq-true-iff (f Product) _ .0 (l .1) in
     elim o [ Or ↦ a .0 | And ↦ b .0 | Compare ↦ c .0 | NotEqual ↦ d .0 | BitOr ↦ e .0 | BitXor ↦ g .0 | BitAnd ↦ i .0 | Shift ↦ j .0 | Concat ↦ k .0 | Sum ↦ l .0 | Product ↦ m .0 | Power ↦ m .1 ]
 
 both : (Bool → Bool) → Bool
@@ -197,8 +179,8 @@ both f = f true && f false
 
 both-at : (f : Bool → Bool) → both f ≡ true → (b : Bool) → f b ≡ true
 unfolding both
-both-at f h true = and-at (f true) (f false) h .0
-both-at f h false = and-at (f true) (f false) h .1
+both-at f h true = and-eq-true-iff (f true) (f false) .0 h .0
+both-at f h false = and-eq-true-iff (f true) (f false) .0 h .1
 
 -- the two rankings of classes
 abbrev C : Ranking Class
@@ -273,38 +255,26 @@ same-clear [] = refl
 same-clear (o ∷ s) = rw (same-clear s) (walk-clear o s)
 
 -- the classes' ranks are the table's, each row tested
-or-right : (a b : Bool) → not a || b ≡ true → a ≡ true → b ≡ true
-or-right true b h k = h
-or-right false b h k = absurd (false≢true k)
+tested : (Row → ℕ) → (Class → ℕ) → Row → Row → Bool
+tested f g x y = imp (ltb 0 (x .left)) (eqb (f x) (g (class (x .kind))))
 
-lefts : ℕ → Row → Row → Bool
-lefts n x y = not (ltb 0 (x .left)) || eqb (x .left) (leftOf n (class (x .kind)))
-
-rights : ℕ → Row → Row → Bool
-rights n x y = not (ltb 0 (x .left)) || eqb (x .right) (rightOf n (class (x .kind)))
-
-left-at : (n k : ℕ) (rows : List Row) → each (lefts n) rows rows ≡ true → lefts n (row k 0 0 0) (row k 0 0 0) ≡ true → 0 < find k rows .left
-    → find k rows .left ≡ leftOf n (class k)
-unfolding lefts
-left-at n k rows h d l = eqb-true _ _ (rw find-kind at (or-right _ _ (rule (lefts n) k rows rows h d) (lt-ltb _ _ l)))
-
-right-at : (n k : ℕ) (rows : List Row) → each (rights n) rows rows ≡ true → rights n (row k 0 0 0) (row k 0 0 0) ≡ true → 0 < find k rows .left
-    → find k rows .right ≡ rightOf n (class k)
-unfolding rights
-right-at n k rows h d l = eqb-true _ _ (rw find-kind at (or-right _ _ (rule (rights n) k rows rows h d) (lt-ltb _ _ l)))
+rank-at : (f : Row → ℕ) (g : Class → ℕ) (k : ℕ) (rows : List Row) → each (tested f g) rows rows ≡ true → tested f g (row k 0 0 0) (row k 0 0 0) ≡ true → 0 < find k rows .left → f (find k rows) ≡ g (class k)
+unfolding tested
+rank-at f g k rows h d l =
+    eqb-true _ _ (subst (λ z. eqb (f (find k rows)) (g (class z)) ≡ true) (find-kind k rows) (imp-at _ _ (rule (tested f g) k rows rows h d) (lt-ltb _ _ l)))
 
 pub left-class : (k : ℕ) → 0 < ranks Crate .left k → ranks Crate .left k ≡ leftOf 10 (class k)
-unfolding lefts look
-left-class k l = left-at 10 k (binary 10) refl refl l
+unfolding imp tested look
+left-class k l = rank-at (λ x. x .left) (leftOf 10) k (binary 10) refl refl l
 
 pub right-class : (k : ℕ) → 0 < ranks Crate .left k → ranks Crate .right k ≡ rightOf 10 (class k)
-unfolding rights look
-right-class k l = right-at 10 k (binary 10) refl refl l
+unfolding imp tested look
+right-class k l = rank-at (λ x. x .right) (rightOf 10) k (binary 10) refl refl l
 
 pub left-manual : (k : ℕ) → 0 < ranks Manual .left k → ranks Manual .left k ≡ leftOf 3 (class k)
-unfolding lefts look
-left-manual k l = left-at 3 k (binary 3) refl refl l
+unfolding imp tested look
+left-manual k l = rank-at (λ x. x .left) (leftOf 3) k (binary 3) refl refl l
 
 pub right-manual : (k : ℕ) → 0 < ranks Manual .left k → ranks Manual .right k ≡ rightOf 3 (class k)
-unfolding rights look
-right-manual k l = right-at 3 k (binary 3) refl refl l
+unfolding imp tested look
+right-manual k l = rank-at (λ x. x .right) (rightOf 3) k (binary 3) refl refl l

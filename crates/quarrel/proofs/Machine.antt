@@ -53,7 +53,7 @@ pub least-none : (p : Option ℕ) → least p none ≡ p
 least-none none = refl
 least-none (some j) = refl
 
-pub least-swap : (p q : Option ℕ) → least p q ≡ least q p
+least-swap : (p q : Option ℕ) → least p q ≡ least q p
 least-swap none q = sym (least-none q)
 least-swap (some j) none = refl
 least-swap (some j) (some i) = ap {B = Option ℕ} some (omega arith)

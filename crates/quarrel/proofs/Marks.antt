@@ -4,17 +4,17 @@ use Prim.Native.Nat.{ℕ, zero, suc, _≤_}
 use mathlib.Core.Bool.{true, _&&_, _||_}
 use mathlib.Core.List.{List, [], _∷_, _++_}
 use native.Mathlib.Omega.{arith}
-use borrow.Author.Tests.{not-true, eqb-true}
+use borrow.Author.Tests.{eqb-true}
 use Rattle.stream.specs.Words.{kind}
 use Rattle.operators.specs.Ranks.{Ranks}
-use Rattle.tree.specs.Forest.{Forest, none, tree, join}
+use Rattle.tree.specs.Forest.{Forest, join}
 use Rattle.grammar.specs.Term.{Term, unlined, here}
 use Rattle.grammar.specs.Term.{empty, any, plus, exp, _⨾_, node}
 use Rattle.grammar.specs.Reading.{Held}
 use Rattle.grammar.specs.Productions.{simple, head, tail, tails, expression}
 use Rattle.grammar.proofs.Derives.{Phrases, Derives, Alone, phrases, Chunk}
 use Rattle.grammar.proofs.Derives.{empty′, expect′, any′, leaf′, weigh′, coded′, plus′, exp′, operand′, stat′, seq′, this′, that′, above′, below′, node′, lead′, held′, kept′, iter′, again′}
-use Rattle.grammar.proofs.Forward.{wrong, and-left, and-right}
+use Rattle.grammar.proofs.Tests.{wrong, and-left, and-right}
 use Rattle.grammar.proofs.Lower.{before}
 use Rattle.grammar.proofs.Made.{simple-closed}
 use Rattle.quarrel.specs.Chains.{Op, operators}
@@ -26,7 +26,7 @@ abbrev pub Next : List ℕ → Ranks → List Op → ℕ → Type 0
 Next s rank [] j = rank .left (kind s j) ≡ 0
 Next s rank (o ∷ os) j = o .sort ≡ kind s j
 
-pub next-stop : (s : List ℕ) (rank : Ranks) (l j : ℕ) (os : List Op) → Next s rank os j → rank .left (kind s j) ≤ l → Stop rank l os
+next-stop : (s : List ℕ) (rank : Ranks) (l j : ℕ) (os : List Op) → Next s rank os j → rank .left (kind s j) ≤ l → Stop rank l os
 next-stop s rank l j [] n h = tt
 next-stop s rank l j (o ∷ os) n h = subst (λ k. rank .left k ≤ l) (sym n) h
 
@@ -53,7 +53,7 @@ module _ (s : List ℕ) (rank : Ranks) (limit : ℕ) (P : Phrases) (low : Low s 
   marked wb w x empty′ = nothing
   marked wb w x (expect′ y) = nothing
   marked wb w x (any′ y) = nothing
-  marked wb w x leaf′ = part (not-true _ w) nothing nothing
+  marked wb w x leaf′ = part w nothing nothing
   marked wb w x weigh′ = nothing
   marked wb w x coded′ = nothing
   marked wb w x plus′ = nothing
@@ -99,11 +99,11 @@ module _ (s : List ℕ) (rank : Ranks) (limit : ℕ) (P : Phrases) (low : Low s 
       let w = and-right (fitting simple) (top simple) simple-fitting in
       λ u os n x. fit-tops s rank (tops-of s rank limit P w d) (marked {b = empty} refl z f (rebased s rank limit P empty simple-closed d)) x
 
-  pub marked-right : {i j v : ℕ} {t : Forest} (os : List Op) → Alone s rank limit P expression i j t v → Next s rank os j → Right s rank limit t os
+  marked-right : {i j v : ℕ} {t : Forest} (os : List Op) → Alone s rank limit P expression i j t v → Next s rank os j → Right s rank limit t os
   unfolding expression tails
   marked-right os (node′ (seq′ {u = u} x (iter′ d))) n = right (marked-head nothing x u os (next-tail s rank limit P rank os n d) (marked-tail os n d))
 
-  pub marked-whole : {i j v : ℕ} {t : Forest} → limit ≡ 0 → Alone s rank limit P expression i j t v → Fits s rank t
+  marked-whole : {i j v : ℕ} {t : Forest} → limit ≡ 0 → Alone s rank limit P expression i j t v → Fits s rank t
   unfolding expression tails
   marked-whole q (node′ (seq′ {t = t} {u = u} x (iter′ {j = j} d))) =
       let n : Next s rank [] j = omega (arith, tail-ends s rank limit P d) in

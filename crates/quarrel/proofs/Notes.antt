@@ -1,34 +1,35 @@
 -- What is noted on the way is the machine's state, and of a derived tree it is the first `~=` that quarrels. Assumes nothing.
 use Prim.Native.Nat.{ℕ, _≤_, _<_, min}
 use mathlib.Core.Path.{_≡_, refl, sym, ap, _∙_, subst, subst₂}
-use mathlib.Core.Bool.{Bool, true, false, _||_, not}
+use mathlib.Core.Bool.{Bool, true, false, _||_}
 use mathlib.Core.List.{List}
-use mathlib.Core.Logic.{_⊎_, inl, inr}
+use mathlib.Core.Logic.{inl, inr}
 use mathlib.Core.Option.{Option, none, some}
 use native.Mathlib.Omega.{arith}
 use lib.Dec.{eqb}
-use borrow.Author.Tests.{not-true}
-use Rattle.stream.specs.Kinds.{NotEqual}
-use Rattle.stream.specs.Words.{records}
+use Rattle.stream.specs.Kinds.{NotEqual, EndOfStream}
+use Rattle.stream.specs.Words.{records, kind}
 use Rattle.stream.specs.Formed.{Formed}
 use Rattle.stream.specs.declared.reader.Note.{Note}
-use Rattle.stream.proofs.Words.{few}
+use Rattle.stream.proofs.Words.{inside, few}
 use Rattle.operators.specs.Ranks.{Ranks}
 use Rattle.tree.specs.Forest.{Forest, tree}
 use Rattle.grammar.specs.Grammar.{Ranked, Chunk}
 use Rattle.grammar.specs.Member.{member}
-use Rattle.grammar.proofs.Forward.{wrong, and-left, and-right}
+use Rattle.grammar.proofs.Tests.{wrong, no-case}
 use Rattle.grammar.proofs.Same.{to-terms}
 use Rattle.quarrel.specs.Chains.{Op, op, expression, unary, tail}
-use Rattle.quarrel.specs.Rule.{firsts, seconds, Quarrelling, First}
-use Rattle.quarrel.specs.Notes.{NONE, note, hears, fresh, resumed, noted, held}
-use Rattle.quarrel.proofs.Classes.{Role, cut, compare, unequal, bits, sum, rest, role, class, part}
+use Rattle.quarrel.specs.Rule.{firsts, seconds}
+use Rattle.quarrel.specs.Notes.{NONE, Names, note, hears, fresh, resumed, noted, held}
+use Rattle.quarrel.proofs.Classes.{Role, cut, compare, unequal, bits, sum, rest, role, class}
+use Rattle.quarrel.proofs.Classes as C
 use Rattle.quarrel.proofs.Words.{cutting, leading, following, differing, cut-words, first-words, second-words, unequal-words}
 use Rattle.quarrel.proofs.Machine.{State, state, start, found, least, least-none, turn, step}
 use Rattle.quarrel.proofs.Noted as M
-use Rattle.quarrel.proofs.Plain.{Parts, Holds, Plain, ends, tailed, signed, atom, holds, nothing, whole, plain}
-use Rattle.quarrel.proofs.Plain as P
-use Rattle.quarrel.proofs.Parts.{apart}
+use Rattle.quarrel.proofs.Fit.{apart, Fit, Right, Fits, ends, tailed, signed, atom, right, nothing, whole, part}
+use Rattle.quarrel.proofs.Parts.{apart-tags}
+use Rattle.quarrel.proofs.Marks.{fits}
+use Rattle.quarrel.proofs.Added.{noted-apart}
 
 -- the place, or NONE where there is none; and so for a state
 abbrev pub code : Option ℕ → ℕ
@@ -107,11 +108,11 @@ low-turn sum i (state b p q) l h = (tt, below-least q p (l .1) (l .0))
 low-turn rest i (state b p q) l h = l
 
 -- to hear an operator is one step of the machine
-pub hears-step : (z : State) (o : Op) → Low z → o .place < NONE → hears (coded z) (o .sort) (o .place) ≡ coded (step z o)
-hears-step z o l h = hears-role (coded z) (o .sort) (o .place) ∙ heard-turn (part o) (o .place) z l h
+hears-step : (z : State) (o : Op) → Low z → o .place < NONE → hears (coded z) (o .sort) (o .place) ≡ coded (step z o)
+hears-step z o l h = hears-role (coded z) (o .sort) (o .place) ∙ heard-turn (C.part o) (o .place) z l h
 
-pub low-step : (z : State) (o : Op) → Low z → o .place < NONE → Low (step z o)
-low-step z o l h = low-turn (part o) (o .place) z l h
+low-step : (z : State) (o : Op) → Low z → o .place < NONE → Low (step z o)
+low-step z o l h = low-turn (C.part o) (o .place) z l h
 
 -- a note that stands for a state
 pub data Codes : Note → State → Type 0 where
@@ -129,65 +130,50 @@ codes-resumed {m = m} (codes {z = state b p q} e l) (codes {z = state c r o} f k
 finding-found : (z : State) → M.finding z (found z) ≡ z
 finding-found (state b p q) = refl
 
-apart-tags : (tag : ℕ) → apart tag ≡ true → (expression tag ≡ false) × (tail tag ≡ false) × (unary tag ≡ false)
-apart-tags tag h =
-    let a = and-right (not (expression tag)) _ h in
-    (not-true _ (and-left (not (expression tag)) _ h), not-true _ (and-left (not (tail tag)) _ a), not-true _ (and-right (not (tail tag)) _ a))
-
--- a test that fails
-fails : {A : Type 0} (a : Bool) (x y : A) → a ≡ false → elim a [ true ↦ x | false ↦ y ] ≡ y
-fails true x y h = wrong (sym h)
-fails false x y h = refl
-
-module _ (s : List ℕ) (tag v l p : ℕ) (k r : Forest) (h : apart tag ≡ true) where
-  noted-apart : (n : Note) → noted s (tree tag v l p k r) n ≡ noted s r (noted s k n)
-  noted-apart n = let e = apart-tags tag h in ap (noted s r) (fails (expression tag) _ _ (e .0) ∙ fails (tail tag) _ _ (e .1) ∙ fails (unary tag) _ _ (e .2))
-
-  machine-apart : (z : State) → M.noted s (tree tag v l p k r) z ≡ M.noted s r (M.finding z (M.nested s k (found z)))
-  machine-apart z = let e = apart-tags tag h in fails (tail tag) _ _ (e .1) ∙ fails (unary tag) _ _ (e .2)
-
-  nested-apart : (q : Option ℕ) → M.nested s (tree tag v l p k r) q ≡ M.nested s r (M.nested s k q)
-  nested-apart q = fails (expression tag) _ _ (apart-tags tag h .0)
-
 -- only what is found changes, twice
 finding-on : (z : State) (q : Option ℕ) (f : Option ℕ → Option ℕ) → M.finding (M.finding z q) (f (found (M.finding z q))) ≡ M.finding z (f q)
 finding-on (state b p o) q f = refl
 
-module _ (s : List ℕ) (inside : records s ≤ NONE) where
+module _ (s : List ℕ) (tag v l p : ℕ) (k r : Forest) (h : apart tag ≡ true) where
+  machine-apart : (z : State) → M.noted s (tree tag v l p k r) z ≡ M.noted s r (M.finding z (M.nested s k (found z)))
+  machine-apart z = let e = apart-tags tag h in no-case (tail tag) _ _ (e .1) ∙ no-case (unary tag) _ _ (e .2)
+
+  nested-apart : (q : Option ℕ) → M.nested s (tree tag v l p k r) q ≡ M.nested s r (M.nested s k q)
+  nested-apart q = no-case (expression tag) _ _ (apart-tags tag h .0)
+
+-- a tail's operator stands at a token of the stream
+real-operator : (s : List ℕ) (rank : Ranks) → Ranked rank → (p : ℕ) {l : ℕ} → l < rank .left (kind s p) → p < records s
+real-operator s rank r p {l} a = inside s p (λ e. wrong (r EndOfStream (subst (λ k. 0 < rank .left k) e (omega arith))))
+
+module _ (s : List ℕ) (rank : Ranks) (ranked : Ranked rank) (few : records s ≤ NONE) where
   mutual
     -- through the parts of an expression, what is noted is the machine's state
-    pub codes-parts : {n : Note} {z : State} {t : Forest} → Parts s t → Codes n z → Codes (noted s t n) (M.noted s t z)
-    codes-parts ends c = c
-    codes-parts (tailed {p = p} h k r) c = codes-parts r (codes-held k (codes-step (op s p) (omega arith) c))
+    codes-parts : {l : ℕ} {n : Note} {z : State} {t : Forest} {os : List Op} → Fit s rank l t os → Codes n z → Codes (noted s t n) (M.noted s t z)
+    codes-parts (ends h) c = c
+    codes-parts (tailed {p = p} a k r) c = codes-parts r (codes-held k (codes-step (op s p) (omega (arith, real-operator s rank ranked p a)) c))
     codes-parts (signed k r) c = codes-parts r (codes-held k c)
     codes-parts {n = m} {z = z} (atom {tag = tag} {v = v} {n = l} {p = p} {k = k} {r = r} h x y) c =
-        subst₂ Codes (sym (noted-apart s tag v l p k r h m)) (sym (machine-apart s tag v l p k r h z)) (codes-parts y (codes-plain x c))
+        subst₂ Codes (sym (noted-apart s tag v l p k r h m)) (sym (machine-apart s tag v l p k r h z)) (codes-parts y (codes-around x c))
 
-    pub codes-held : {n : Note} {z : State} {t : Forest} → Holds s t → Codes n z → Codes (held s t n) (M.held s t z)
-    codes-held (holds k) c = codes-parts k c
+    codes-held : {l : ℕ} {n : Note} {z : State} {t : Forest} {os : List Op} → Right s rank l t os → Codes n z → Codes (held s t n) (M.held s t z)
+    codes-held (right k) c = codes-parts k c
 
     -- through trees around expressions only what is found changes
-    pub codes-plain : {n : Note} {z : State} {t : Forest} → Plain s t → Codes n z → Codes (noted s t n) (M.finding z (M.nested s t (found z)))
-    codes-plain {n = m} {z = z} nothing c = subst (Codes m) (sym (finding-found z)) c
-    codes-plain {n = m} {z = z} (whole {v = v} {n = l} {p = p} {k = k} {r = r} x y) c =
-        subst (Codes (noted s (tree 17 v l p k r) m)) (finding-on z (found (M.noted s k (state false none (found z)))) (M.nested s r)) (codes-plain y (codes-resumed c (codes-parts x (codes-fresh c))))
-    codes-plain {n = m} {z = z} (P.part {tag = tag} {v = v} {n = l} {p = p} {k = k} {r = r} h x y) c =
-        subst₂ Codes (sym (noted-apart s tag v l p k r h m)) (finding-on z (M.nested s k (found z)) (M.nested s r) ∙ ap (M.finding z) (sym (nested-apart s tag v l p k r h (found z)))) (codes-plain y (codes-plain x c))
+    codes-around : {n : Note} {z : State} {t : Forest} → Fits s rank t → Codes n z → Codes (noted s t n) (M.finding z (M.nested s t (found z)))
+    codes-around {n = m} {z = z} nothing c = subst (Codes m) (sym (finding-found z)) c
+    codes-around {n = m} {z = z} (whole {v = v} {n = l} {p = p} {k = k} {r = r} x y) c =
+        subst (Codes (noted s (tree 17 v l p k r) m)) (finding-on z (found (M.noted s k (state false none (found z)))) (M.nested s r)) (codes-around y (codes-resumed c (codes-parts x (codes-fresh c))))
+    codes-around {n = m} {z = z} (part {tag = tag} {v = v} {n = l} {p = p} {k = k} {r = r} h x y) c =
+        subst₂ Codes (sym (noted-apart s tag v l p k r h m)) (finding-on z (M.nested s k (found z)) (M.nested s r) ∙ ap (M.finding z) (sym (nested-apart s tag v l p k r h (found z)))) (codes-around y (codes-around x c))
 
--- what is found: nothing, or the first
-abbrev Told : List ℕ → Forest → ℕ → Type 0
-Told s t f = ((f ≡ NONE) × ((i : ℕ) → ¬ Quarrelling s t i)) ⊎ First s t f
-
-found-told : (s : List ℕ) (t : Forest) (q : Option ℕ) → M.nested s t none ≡ q → Told s t (code q)
+-- what is found
+found-told : (s : List ℕ) (t : Forest) (q : Option ℕ) → M.nested s t none ≡ q → Names s t (code q)
 found-told s t none e = inl (refl, M.found-none s t .0 e)
 found-told s t (some i) e = inr (M.found-some s t i .0 e)
 
-codes-told : (s : List ℕ) (t : Forest) {n : Note} → Codes n (M.finding start (M.nested s t none)) → Told s t (n .found)
-codes-told s t (codes e l) = subst (Told s t) (sym (ap (λ n. n .found) e)) (found-told s t (M.nested s t none) refl)
+codes-told : (s : List ℕ) (t : Forest) {n : Note} → Codes n (M.finding start (M.nested s t none)) → Names s t (n .found)
+codes-told s t (codes e l) = subst (Names s t) (sym (ap (λ n. n .found) e)) (found-told s t (M.nested s t none) refl)
 
--- of a derived tree: nothing is found and nothing quarrels, or what is found is the first that does
-pub first-noted : (s : List ℕ) → Formed s → (rank : Ranks) (g : ℕ) {t : Forest} → Ranked rank → Chunk s rank g t
-    → let f = noted s t (note false NONE NONE) .found in ((f ≡ NONE) × ((i : ℕ) → ¬ Quarrelling s t i)) ⊎ First s t f
-first-noted s w rank g {t} r c =
-    let h : records s ≤ NONE = omega (arith, few s w) in
-    codes-told s t (codes-plain s h (plain s rank (to-terms s rank r c)) (codes {z = start} refl (tt, tt)))
+-- and so of a derived tree
+pub first-noted : (s : List ℕ) → Formed s → (rank : Ranks) (g : ℕ) {t : Forest} → Ranked rank → Chunk s rank g t → Names s t (noted s t (note false NONE NONE) .found)
+first-noted s w rank g {t} r c = codes-told s t (codes-around s rank r (omega (arith, few s w)) (fits s rank (to-terms s rank r c)) (codes {z = start} refl (tt, tt)))

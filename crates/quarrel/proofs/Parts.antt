@@ -16,15 +16,17 @@ use Rattle.grammar.specs.Productions.{ifstat, whilestat, dostat, forstat, repea
 use Rattle.grammar.proofs.Derives.{Phrases, Derives}
 use Rattle.grammar.proofs.Derives.{empty′, expect′, any′, leaf′, weigh′, coded′, plus′, exp′, operand′, stat′, seq′, this′, that′, above′, below′, node′, lead′, held′, kept′, iter′, again′}
 use Rattle.grammar.proofs.Form.{closed}
-use Rattle.grammar.proofs.Forward.{wrong, and-left, and-right, or-elim}
+use Rattle.grammar.proofs.Tests.{wrong, and-left, and-right, or-elim}
 use Rattle.quarrel.specs.Chains.{Op, expression, unary, tail}
-use Rattle.quarrel.proofs.Fit.{Fit, Fits, ends, tailed, signed, atom, nothing, whole, part}
+use Rattle.quarrel.proofs.Fit.{apart, Fit, Fits, ends, tailed, signed, atom, nothing, whole, part}
 
--- a record's tag that is neither an expression's, nor a unary operator's, nor a tail's
-abbrev pub apart : ℕ → Bool
-apart tag = not (expression tag) && (not (tail tag) && not (unary tag))
+-- a tag that is apart, by its three tests
+pub apart-tags : (tag : ℕ) → apart tag ≡ true → (expression tag ≡ false) × (tail tag ≡ false) × (unary tag ≡ false)
+apart-tags tag h =
+    let a = and-right (not (expression tag)) _ h in
+    (not-true _ (and-left (not (expression tag)) _ h), not-true _ (and-left (not (tail tag)) _ a), not-true _ (and-right (not (tail tag)) _ a))
 
--- derives only such records
+-- derives only records that are apart
 abbrev pub top : Term → Bool
 top empty = true
 top (expect k c o) = true
@@ -63,7 +65,7 @@ uses (a ⨾ b) = uses a || uses b
 uses (on l ks a b) = uses a && uses b
 uses (operator a b) = uses a && uses b
 uses (refuse c) = false
-uses (node tag f l e) = uses e && not (expression tag)
+uses (node tag f l e) = uses e && apart tag
 uses (lead a b) = false
 uses (held h n) = true
 uses (kept h n e) = uses e
@@ -98,7 +100,7 @@ abbrev pub fitting : Term → Bool
 fitting empty = true
 fitting (expect k c o) = true
 fitting any = true
-fitting (leaf tag) = not (expression tag)
+fitting (leaf tag) = apart tag
 fitting weigh = true
 fitting coded = true
 fitting (plus w) = true
@@ -109,7 +111,7 @@ fitting (a ⨾ b) = fitting a && fitting b
 fitting (on l ks a b) = fitting a && fitting b
 fitting (operator a b) = false
 fitting (refuse c) = true
-fitting (node tag f l e) = fitting e && (not (expression tag) || top e)
+fitting (node tag f l e) = fitting e && (apart tag || (expression tag && top e))
 fitting (lead a b) = fitting a && (fitting b && (uses b || bare a))
 fitting (held h n) = true
 fitting (kept h n e) = fitting e
@@ -128,7 +130,7 @@ pub simple-fitting : (fitting simple && top simple) ≡ true
 unfolding explist retstat block parlist funcbody field table args suffix primary suffixed simple
 simple-fitting = refl
 
--- trees with such tags
+-- trees that are apart
 pub data Tops : Forest → Type 0 where
   no-tops : Tops none
   tops : {tag v n p : ℕ} {k r : Forest} → apart tag ≡ true → Tops r → Tops (tree tag v n p k r)
@@ -151,42 +153,37 @@ module _ (s : List ℕ) (rank : Ranks) where
   fits-parts none u x = (nothing, x)
   fits-parts (tree tag v n p k r) u x = first x (fits-parts r u)
 
-  -- a record that is no expression's, and its children
-  pub fits-kids : {tag v n p : ℕ} {k r : Forest} → expression tag ≡ false → Fits s rank (tree tag v n p k r) → Fits s rank k
-  fits-kids h (whole x y) = wrong (sym h)
+  -- the children of a record that is apart
+  fits-kids : {tag v n p : ℕ} {k r : Forest} → apart tag ≡ true → Fits s rank (tree tag v n p k r) → Fits s rank k
+  fits-kids h (whole x y) = wrong h
   fits-kids h (part h′ x y) = x
 
-  -- trees of such tags before the parts of an expression
+  -- such trees before the parts of an expression
   pub fit-tops : {l : ℕ} {t u : Forest} {os : List Op} → Tops t → Fits s rank t → Fit s rank l u os → Fit s rank l (join t u) os
   fit-tops no-tops x y = y
   fit-tops (tops h z) (whole x r) y = wrong h
-  fit-tops (tops {tag = tag} h z) (part g x r) y =
-      let a = and-right (not (expression tag)) _ h in
-      atom (not-true _ (and-left (not (tail tag)) _ a)) (not-true _ (and-right (not (tail tag)) _ a)) x (fit-tops z r y)
+  fit-tops (tops h z) (part g x r) y = atom h x (fit-tops z r y)
 
   tops-first : {l tag v n p : ℕ} {k r : Forest} {os : List Op} → apart tag ≡ true → Fit s rank l (tree tag v n p k r) os → Fits s rank k × Fit s rank l r os
   tops-first h (tailed a e x) = wrong h
   tops-first h (signed e x) = wrong h
-  tops-first h (atom g u e x) = (e, x)
+  tops-first h (atom g e x) = (e, x)
 
   pub tops-fit : {l : ℕ} {t : Forest} (u : Forest) {os : List Op} → Tops t → Fit s rank l (join t u) os → Fits s rank t × Fit s rank l u os
   tops-fit u no-tops x = (nothing, x)
-  tops-fit u (tops {tag = tag} h z) x =
+  tops-fit u (tops h z) x =
       let y = tops-first h x in
       let w = tops-fit u z (y .1) in
-      (part (not-true _ (and-left (not (expression tag)) _ h)) (y .0) (w .0), w .1)
+      (part h (y .0) (w .0), w .1)
 
   -- a record over trees that fit
-  pub wrapped : (tag v n p : ℕ) (t : Forest) (c : Bool) → (not (expression tag) || c) ≡ true → (c ≡ true → Tops t) → Fits s rank t → Fits s rank (tree tag v n p t none)
-  wrapped tag v n p t c h f x = go (expression tag) refl h
-    where
-      go : (b : Bool) → expression tag ≡ b → (not b || c) ≡ true → Fits s rank (tree tag v n p t none)
-      go true g h =
-          subst (λ z. Fits s rank (tree z v n p t none)) (sym (eqb-true tag 17 g))
-          (whole (subst (λ u. Fit s rank 0 u []) (join-none t) (fit-tops (f h) x (ends tt))) nothing)
-      go false g h = part g x nothing
+  pub wrapped : (tag v n p : ℕ) (t : Forest) (c : Bool) → (apart tag || (expression tag && c)) ≡ true → (c ≡ true → Tops t) → Fits s rank t → Fits s rank (tree tag v n p t none)
+  wrapped tag v n p t c h f x =
+      or-elim (apart tag) (expression tag && c) h (λ a. part a x nothing)
+      (λ a. subst (λ z. Fits s rank (tree z v n p t none)) (sym (eqb-true tag 17 (and-left (expression tag) c a)))
+      (whole (subst (λ u. Fit s rank 0 u []) (join-none t) (fit-tops (f (and-right (expression tag) c a)) x (ends tt))) nothing))
 
-  pub unwrapped : {tag v n p : ℕ} {t : Forest} (c : Bool) → (not (expression tag) || c) ≡ true → (c ≡ true → Tops t) → Fits s rank (tree tag v n p t none) → Fits s rank t
+  pub unwrapped : {tag v n p : ℕ} {t : Forest} (c : Bool) → (apart tag || (expression tag && c)) ≡ true → (c ≡ true → Tops t) → Fits s rank (tree tag v n p t none) → Fits s rank t
   unwrapped {t = t} c h f (whole x y) = tops-fit none (f h) (subst (λ u. Fit s rank 0 u []) (sym (join-none t)) x) .0
   unwrapped c h f (part g x y) = x
 
@@ -233,7 +230,7 @@ module _ (s : List ℕ) (rank : Ranks) (limit : ℕ) (P : Phrases) where
   used r w (that′ {e = a} {f = c} y d) x = used r (and-right (uses a) (uses c) w) d x
   used r w (above′ {e = a} {f = c} y d) x = used r (and-left (uses a) (uses c) w) d x
   used r w (below′ {e = a} {f = c} y d) x = used r (and-right (uses a) (uses c) w) d x
-  used r w (node′ {e = a} {tag = tag} d) x = used r (and-left (uses a) _ w) d (fits-kids s r (not-true _ (and-right (uses a) (not (expression tag)) w)) x)
+  used r w (node′ {e = a} {tag = tag} d) x = used r (and-left (uses a) (apart tag) w) d (fits-kids s r (and-right (uses a) (apart tag) w) x)
   used r w (lead′ d d′) x = wrong w
   used r w (held′ y) x = x
   used r w (kept′ y d) x = used r w d x

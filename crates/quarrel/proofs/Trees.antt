@@ -1,24 +1,24 @@
 -- The crate's ranking and the manual's give a stream one tree if and only if no `~=` of it quarrels. Assumes nothing.
 use mathlib.Core.Path.{_≡_, refl, sym, ap, ap₂, _∙_, subst}
 use Prim.Native.Nat.{ℕ, suc, _<_}
-use mathlib.Core.Bool.{Bool, true, _&&_, _||_, not, Bool·beq}
+use mathlib.Core.Bool.{Bool, true, _&&_, Bool·beq}
 use mathlib.Core.List.{List, [], _∷_}
 use mathlib.Core.Logic.{_↔_}
 use native.Mathlib.Omega.{arith}
 use lib.Dec.{leb, ltb}
-use borrow.Author.Tests.{lt-ltb, le-ltb, ltb-true, ltb-false, leb-true, not-true}
-use Rattle.operators.specs.Ranks.{Row, binary, find, ranked, ranks}
+use borrow.Author.Tests.{lt-ltb, le-ltb, ltb-true, ltb-false, leb-true}
+use Rattle.operators.specs.Ranks.{Row, binary, ranked, ranks}
 use Rattle.operators.specs.declared.Ranking.the-variants.{Crate, Manual}
-use Rattle.operators.proofs.Laws.{each, rule, same-operators}
+use Rattle.operators.proofs.Laws.{each, rule, beq-at, same-operators}
 use Rattle.tree.specs.Forest.{Forest}
 use Rattle.grammar.specs.Grammar.{Chunk}
-use Rattle.grammar.proofs.Forward.{or-elim, wrong}
+use Rattle.grammar.proofs.Tests.{imp, imp-at}
 use Rattle.grammar.proofs.Same.{to-terms, from-terms}
 use Rattle.grammar.proofs.Theorems.{unique, is-ranked}
 use Rattle.quarrel.specs.Chains.{Op, chains}
 use Rattle.quarrel.specs.Rule.{Quarrels, Quarrelling, In, here, there}
 use Rattle.quarrel.proofs.Walks.{step, walk, same, takes}
-use Rattle.quarrel.proofs.Classes.{crate, manual, same-clear, beq-at, left-class, right-class, left-manual, right-manual}
+use Rattle.quarrel.proofs.Classes.{crate, manual, same-clear, left-class, right-class, left-manual, right-manual}
 use Rattle.quarrel.proofs.Words.{clear-words}
 use Rattle.quarrel.proofs.Fit.{Fits}
 use Rattle.quarrel.proofs.Agree.{Lawful, pass, Over, Same, All, both-fits, moved-fits}
@@ -33,23 +33,23 @@ lows : Row → Row → Bool
 lows x y = leb (x .right) 13
 
 highs : Row → Row → Bool
-highs x y = not (ltb 12 (x .left)) || ltb 13 (x .left)
+highs x y = imp (ltb 12 (x .left)) (ltb 13 (x .left))
 
 keeps : (rows : List Row) → each nears rows rows ≡ true → each lows rows rows ≡ true → each highs rows rows ≡ true → Lawful (ranked rows)
-unfolding nears lows highs
+unfolding imp nears lows highs
 keeps rows a b c =
     record {
       near = λ k. leb-true _ _ (rule nears k rows rows a refl);
       low = λ k. leb-true _ _ (rule lows k rows rows b refl);
-      high = λ k h. or-elim (not (ltb 12 (find k rows .left))) (ltb 13 (find k rows .left)) (rule highs k rows rows c refl) (λ x. wrong (sym (not-true _ x) ∙ lt-ltb _ _ h)) (λ x. ltb-true _ _ x);
+      high = λ k h. ltb-true _ _ (imp-at _ _ (rule highs k rows rows c refl) (lt-ltb _ _ h));
     }
 
 crate-keeps : Lawful (ranks Crate)
-unfolding nears lows highs
+unfolding imp nears lows highs
 crate-keeps = keeps (binary 10) refl refl refl
 
 manual-keeps : Lawful (ranks Manual)
-unfolding nears lows highs
+unfolding imp nears lows highs
 manual-keeps = keeps (binary 3) refl refl refl
 
 -- the same operators stand above a unary operator's operand

@@ -1,17 +1,18 @@
 -- The rule in its own words is the rule as a test over the operators' roles. Assumes nothing.
 use Prim.Native.Nat.{ℕ, zero, suc, _≤_, _<_}
 use mathlib.Core.Path.{_≡_, refl, sym, ap, _∙_}
-use mathlib.Core.Bool.{Bool, true, false, _&&_, _||_, not, Bool·beq, false≢true}
+use mathlib.Core.Bool.{Bool, true, false, _&&_, _||_, not, Bool·beq, false≢true, and-eq-true-iff}
 use mathlib.Core.List.{List, [], _∷_, _++_}
 use mathlib.Core.Logic.{_↔_, _⊎_, inl, inr}
 use native.Mathlib.Omega.{arith}
 use lib.Dec.{eqb, ltb}
 use borrow.Author.Tests.{eq-eqb, ne-eqb, eqb-true, ltb-true, ltb-false}
 use Rattle.stream.specs.Kinds.{NotEqual}
+use Rattle.operators.proofs.Laws.{beq-at}
 use Rattle.grammar.specs.Member.{member}
 use Rattle.quarrel.specs.Chains.{Op}
 use Rattle.quarrel.specs.Rule.{cuts, firsts, seconds, halts, None, nothing, other, Stands, Comes, Quarrels}
-use Rattle.quarrel.proofs.Classes.{Product, Named, look, table, class, Role, cut, compare, unequal, bits, sum, rest, role, hear, heard, next, second, quarrel, clear, part, kinds, beq-at, and-at}
+use Rattle.quarrel.proofs.Classes.{Product, Named, look, table, class, Role, cut, compare, unequal, bits, sum, rest, role, hear, heard, next, second, quarrel, clear, part, kinds}
 
 -- which roles the four lists name
 abbrev pub cutting : Role → Bool
@@ -62,7 +63,7 @@ below f (suc n) = f n && below f n
 below-at : (f : ℕ → Bool) (n : ℕ) → below f n ≡ true → (k : ℕ) → k < n → f k ≡ true
 unfolding below
 below-at f zero h k l = absurd (omega arith)
-below-at f (suc n) h k l = go (eqb k n) refl (and-at (f n) (below f n) h) (below-at f n (and-at (f n) (below f n) h .1) k)
+below-at f (suc n) h k l = go (eqb k n) refl (and-eq-true-iff (f n) (below f n) .0 h) (below-at f n (and-eq-true-iff (f n) (below f n) .0 h .1) k)
   where
     go : (b : Bool) → eqb k n ≡ b → (f n ≡ true) × (below f n ≡ true) → (k < n → f k ≡ true) → f k ≡ true
     go true e p g = rw (eqb-true k n e) (p .0)
@@ -82,7 +83,7 @@ member-high : (k : ℕ) → 60 ≤ k → (ks : List ℕ) → small ks ≡ true �
 unfolding small
 member-high k h [] s = refl
 member-high k h (x ∷ xs) s =
-    let a = and-at (ltb x 60) (small xs) s in
+    let a = and-eq-true-iff (ltb x 60) (small xs) .0 s in
     rw (ne-eqb k x (λ e. omega (arith, ltb-true x 60 (a .0)))) (member-high k h xs (a .1))
 
 low : List Named → Bool
@@ -93,7 +94,7 @@ look-high : (k : ℕ) → 60 ≤ k → (xs : List Named) → low xs ≡ true →
 unfolding low look
 look-high k h [] s = refl
 look-high k h (x ∷ xs) s =
-    let a = and-at (ltb (x .name) 60) (low xs) s in
+    let a = and-eq-true-iff (ltb (x .name) 60) (low xs) .0 s in
     rw (look, ne-eqb k (x .name) (λ e. omega (arith, ltb-true (x .name) 60 (a .0)))) (look-high k h xs (a .1))
 
 told : (Role → Bool) → List ℕ → ℕ → Bool
@@ -306,8 +307,8 @@ not-false false h = refl
 
 clear-loud : (b : Bool) (os : List Op) → clear b (kinds os) ≡ true → (x : Op) → ¬ Loud b os x
 clear-loud b [] h x q = empty q
-clear-loud b (o ∷ os) h x q = go (and-at (not (quarrel b (part o) (second (kinds os)))) (clear (hear b (part o)) (kinds os)) h .0)
-    (clear-loud (hear b (part o)) os (and-at (not (quarrel b (part o) (second (kinds os)))) (clear (hear b (part o)) (kinds os)) h .1) x) (cases b o os x q)
+clear-loud b (o ∷ os) h x q = go (and-eq-true-iff (not (quarrel b (part o) (second (kinds os)))) (clear (hear b (part o)) (kinds os)) .0 h .0)
+    (clear-loud (hear b (part o)) os (and-eq-true-iff (not (quarrel b (part o) (second (kinds os)))) (clear (hear b (part o)) (kinds os)) .0 h .1) x) (cases b o os x q)
   where
     go : not (quarrel b (part o) (second (kinds os))) ≡ true → ¬ Loud (hear b (part o)) os x → ((o ≡ x) × (quarrel b (part o) (second (kinds os)) ≡ true)) ⊎ Loud (hear b (part o)) os x → ⊥
     go n f (inl y) = false≢true (sym (not-false _ n) ∙ y .1)

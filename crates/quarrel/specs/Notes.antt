@@ -1,7 +1,9 @@
 -- What is noted on the way: the rule heard operator by operator, and over whole trees. Assumes nothing: these are definitions.
+use mathlib.Core.Path.{_≡_}
 use Prim.Native.Nat.{ℕ, min}
 use mathlib.Core.Bool.{Bool, true, false}
 use mathlib.Core.List.{List}
+use mathlib.Core.Logic.{_⊎_}
 use lib.Dec.{eqb}
 use Rattle.stream.specs.Kinds.{NotEqual}
 use Rattle.stream.specs.Words.{kind}
@@ -9,11 +11,15 @@ use Rattle.stream.specs.declared.reader.Note.{Note}
 use Rattle.tree.specs.Forest.{Forest, none, tree}
 use Rattle.grammar.specs.Member.{member}
 use Rattle.quarrel.specs.Chains.{expression, unary, tail}
-use Rattle.quarrel.specs.Rule.{cuts, firsts, seconds}
+use Rattle.quarrel.specs.Rule.{cuts, firsts, seconds, Quarrelling, First}
 
 -- no token
 abbrev pub NONE : ℕ
 NONE = 18446744073709551615
+
+-- a place names the first token that quarrels in some trees, or none where none does
+abbrev pub Names : List ℕ → Forest → (place : ℕ) → Type 0
+Names s t p = ((p ≡ NONE) × ((i : ℕ) → ¬ Quarrelling s t i)) ⊎ First s t p
 
 abbrev pub note : (heard : Bool) (waits found : ℕ) → Note
 note h w f = record { heard = h; waits = w; found = f }

@@ -7,7 +7,7 @@ use lib.ListN.{length, take, drop, getD, length-append}
 use lib.Seq.{sets, sets-eq, length-take-le, take-add, drop-cons}
 use Rattle.lines.specs.Lines.{Line, line, shown, show, fours, words, shownAnswer, field}
 use Rattle.lines.proofs.Hex.{length-field, put-after}
-use Rattle.lines.proofs.Text.{length-shown, length-words, words-more, show-more}
+use Rattle.lines.proofs.Text.{length-shown, length-words, each-more}
 use Rattle.script.specs.Answers.{Put}
 use Rattle.script.specs.Parts.{Wrote, PutTree}
 
@@ -44,7 +44,7 @@ pub put-none : (bytes out : List ℕ) (k : ℕ) → length bytes ≡ k → lengt
 put-none bytes out k e h = record { count = sym e; fits = λ f. absurd (omega arith); short = λ _. refl }
 
 -- words in fours are records
-pub grouped : (n : ℕ) (ws : List ℕ) → length ws ≡ n * 4 → (ls : List Line) × (words ls ≡ ws)
+grouped : (n : ℕ) (ws : List ℕ) → length ws ≡ n * 4 → (ls : List Line) × (words ls ≡ ws)
 grouped zero [] e = ([], refl)
 grouped zero (w ∷ ws) e = absurd (omega arith)
 grouped (suc n) [] e = absurd (omega arith)
@@ -74,8 +74,8 @@ wrote-more nodes out i p q h (ls, a, b) e =
     let n : i * 4 + 4 ≡ (i + 1) * 4 = omega arith in
     let m : p ≡ 0 + length (show ls) = omega (arith, length-show ls, length-words ls, ap length a, length-take-le (i * 4) nodes (omega arith)) in (
       ls ++ l ∷ [],
-      words-more ls l ∙ ap (λ (x : List ℕ). x ++ fours l) a ∙ sym (take-four nodes (i * 4) h) ∙ ap (λ (k : ℕ). take k nodes) n,
-      put-after out 0 p (show ls) (shown l) m b e ∙ ap (sets out 0) (sym (show-more ls l)),
+      each-more fours ls l ∙ ap (λ (x : List ℕ). x ++ fours l) a ∙ sym (take-four nodes (i * 4) h) ∙ ap (λ (k : ℕ). take k nodes) n,
+      put-after out 0 p (show ls) (shown l) m b e ∙ ap (sets out 0) (sym (each-more shown ls l)),
     )
 
 -- a tree's lines, written or not

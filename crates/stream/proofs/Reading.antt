@@ -3,16 +3,23 @@ use mathlib.Core.Path.{_≡_, sym, _∙_}
 use mathlib.Core.Bool.{false}
 use mathlib.Core.List.{List}
 use mathlib.Core.Logic.{by-cases}
-use Prim.Native.Nat.{ℕ, _+_}
+use Prim.Native.Nat.{ℕ, _+_, min, max}
 use native.Mathlib.Decide.{ℕ-discrete}
 use native.Mathlib.Omega.{arith}
 use lib.Dec.{eqb}
 use borrow.Author.Tests.{eq-eqb, ne-eqb}
-use Rattle.stream.specs.Words.{kind, line}
-use Rattle.stream.specs.Reader.{atEnd, tokenAt, readAhead, told, ended, unexpected, expecting, passed, getNext, takeNext, expectNext, expectName, lookAhead, checkAhead}
+use Rattle.stream.specs.Words.{records, kind, line}
+use Rattle.stream.specs.Reader.{atEnd, tokenAt, reached, readAhead, told, ended, unexpected, expecting, passed, getNext, takeNext, expectNext, expectName, lookAhead, checkAhead}
 use Rattle.stream.specs.declared.reader.Cursor.{Cursor}
 use Rattle.stream.specs.declared.reader.Next.the-variants.{Took, Fail}
 use Rattle.stream.specs.declared.reader.Look.the-variants.{Seen, End}
+
+-- a second look reaches no further
+pub reached-twice : (s : List ℕ) (m p n : ℕ) → reached s (reached s m p n) p n ≡ reached s m p n
+reached-twice s m p n = max-twice m (min (p + n) (records s))
+  where
+    max-twice : (a b : ℕ) → max (max a b) b ≡ max a b
+    max-twice a b = omega arith
 
 module _ (s : List ℕ) (c : Cursor) where
   pub get-end : kind s (c .place) ≡ 59 → getNext s c ≡ Fail (ended s (readAhead s c 1) 0)

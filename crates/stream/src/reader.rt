@@ -4,7 +4,7 @@ use crate::kinds::NAME;
 ghost use mathlib.Core.Path.{_≡_};
 ghost use Prim.Native.Nat.{_+_, _<_, max};
 ghost use Rattle.stream.specs.Words.{kind};
-ghost use Rattle.stream.specs.Reader.{tokenAt, reached, readAhead, told, ended, unexpected, expecting, passed, atEnd, getNext, takeNext, expectNext, expectName, lookAhead, checkAhead};
+ghost use Rattle.stream.specs.Reader.{tokenAt, reached, readAhead, told, ended, getNext, takeNext, expectNext, expectName, lookAhead, checkAhead};
 
 // What a user of the cursor notes on the way: the reader's functions hand it on and never look at it.
 pub struct Note {

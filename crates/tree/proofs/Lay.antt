@@ -6,7 +6,7 @@ use native.Mathlib.Nat.{add-zero}
 use native.Mathlib.Omega.{arith}
 use lib.ListN.{length, set, drop, length-append}
 use lib.Seq.{sets, sets-eq, set-comm, set-out}
-use Rattle.tree.specs.Forest.{Forest, none, tree, size, count, join, words, flat}
+use Rattle.tree.specs.Forest.{Forest, none, tree, size, join, words, flat}
 
 -- past the end nothing is stored
 pub sets-out : (vs l : List ℕ) (i : ℕ) → length l ≤ i → sets l i vs ≡ l
@@ -34,17 +34,13 @@ pub length-flat : (t : Forest) → length (flat t) ≡ size t * 4
 length-flat none = refl
 length-flat (tree tag value line place kids rest) = omega (arith, length-append (flat kids) (flat rest), length-flat kids, length-flat rest)
 
-pub flat-join : (a b : Forest) → flat (join a b) ≡ flat a ++ flat b
+flat-join : (a b : Forest) → flat (join a b) ≡ flat a ++ flat b
 flat-join none b = refl
 flat-join (tree tag value line place kids rest) b = simp (flat-join rest b, append-assoc)
 
 pub size-join : (a b : Forest) → size (join a b) ≡ size a + size b
 size-join none b = omega arith
 size-join (tree tag value line place kids rest) b = omega (arith, size-join rest b)
-
-pub count-join : (a b : Forest) → count (join a b) ≡ count a + count b
-count-join none b = omega arith
-count-join (tree tag value line place kids rest) b = omega (arith, count-join rest b)
 
 pub join-assoc : (a b c : Forest) → join (join a b) c ≡ join a (join b c)
 join-assoc none b c = refl

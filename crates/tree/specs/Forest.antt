@@ -13,11 +13,6 @@ abbrev pub size : Forest → ℕ
 size none = 0
 size (tree tag value line place kids rest) = suc (size kids) + size rest
 
--- how many trees stand side by side
-abbrev pub count : Forest → ℕ
-count none = 0
-count (tree tag value line place kids rest) = suc (count rest)
-
 -- one after the other
 abbrev pub join : Forest → Forest → Forest
 join none b = b
