@@ -6,8 +6,8 @@ use mathlib.Core.Logic.{_⊎_, inl, inr, by-cases}
 use Prim.Native.Nat.{ℕ, _≤_, _<_}
 use native.Mathlib.Decide.{ℕ-discrete}
 use native.Mathlib.Omega.{arith}
-use borrow.Author.Tests.{eq-eqb, ne-eqb}
 use lib.ListN.{replicate}
+use borrow.Author.Tests.{eq-eqb, ne-eqb}
 use Rattle.stream.specs.Formed.{Formed}
 use Rattle.operators.specs.Ranks.{ranks}
 use Rattle.operators.specs.declared.Ranking.the-variants.{Crate, Manual}

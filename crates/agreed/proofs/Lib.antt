@@ -1,3 +1,4 @@
+-- What is proved of the agreed reading, leaves first.
 pub mod Places
 pub mod Readings
 pub mod Cases

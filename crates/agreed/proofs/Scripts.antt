@@ -8,8 +8,8 @@ use Prim.Native.Nat.{ℕ, zero, suc, _*_, _≤_, _<_}
 use native.Mathlib.Decide.{decLt}
 use native.Mathlib.Nat.{zero-add}
 use native.Mathlib.Omega.{arith}
-use borrow.Author.Tests.{le-leb}
 use lib.ListN.{length, drop}
+use borrow.Author.Tests.{le-leb}
 use Rattle.stream.specs.Words.{records, line, word}
 use Rattle.stream.specs.Formed.{most, good, sized, Formed}
 use Rattle.operators.specs.Ranks.{ranks, find}

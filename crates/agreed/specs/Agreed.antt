@@ -1,8 +1,8 @@
 -- What the agreed reading promises of its five numbers and of every word of the node array, for any words. Assumes nothing: these are
 -- definitions.
 use mathlib.Core.Path.{_≡_}
-use Prim.Native.Nat.{ℕ, _*_, _≤_, _<_}
 use mathlib.Core.List.{List, _++_}
+use Prim.Native.Nat.{ℕ, _*_, _≤_, _<_}
 use lib.ListN.{length, drop}
 use Rattle.stream.specs.Words.{line}
 use Rattle.stream.specs.Formed.{Formed, Malformed}

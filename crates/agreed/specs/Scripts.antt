@@ -1,7 +1,7 @@
 -- 01's scripts marked *, and what each is answered. Assumes nothing: these are definitions.
 use mathlib.Core.Path.{_≡_}
-use Prim.Native.Nat.{ℕ, _≤_}
 use mathlib.Core.List.{List, [], _∷_, _++_}
+use Prim.Native.Nat.{ℕ, _≤_}
 use lib.ListN.{length, drop}
 use Rattle.stream.specs.Kinds.{Goto, Return, Minus, Add, Mul, Pow, Assign, Equal, NotEqual, Dot, Comma, LeftParen, RightParen, LeftBrace, RightBrace, Integer, Name, EndOfStream}
 use Rattle.operators.specs.declared.Ranking.the-variants.{Crate}

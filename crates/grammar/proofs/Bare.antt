@@ -4,17 +4,17 @@ use mathlib.Core.List.{List}
 use mathlib.Core.Bool.{Bool, true, false}
 use Prim.Native.Nat.{ℕ, suc, _+_, _-_, _≤_, _<_}
 use native.Mathlib.Omega.{arith}
-use borrow.Author.Tests.{eqb-false}
 use lib.ListN.{length}
 use lib.Dec.{eqb, ltb}
+use borrow.Author.Tests.{eqb-false}
 use Rattle.stream.specs.Reader.{reached}
-use Rattle.tree.specs.Forest.{Forest, none}
 use Rattle.stream.specs.Words.{kind}
-use Rattle.stream.proofs.Reading.{reached-twice}
-use Rattle.grammar.specs.Term.{Line, unlined}
-use Rattle.operators.specs.Ranks.{Ranks, code}
-use Rattle.grammar.specs.Reading.{hold}
 use Rattle.stream.specs.declared.reader.Refusal.{Refusal}
+use Rattle.stream.proofs.Reading.{reached-twice}
+use Rattle.operators.specs.Ranks.{Ranks, code}
+use Rattle.tree.specs.Forest.{Forest, none}
+use Rattle.grammar.specs.Term.{Line, unlined}
+use Rattle.grammar.specs.Reading.{hold}
 use Rattle.grammar.specs.Reading.{Out, fine, fail, Reader, Readers, ended, add, then, wrap, loop, read}
 use Rattle.grammar.specs.Productions.{tail}
 use Rattle.grammar.proofs.Sound.{Fits}

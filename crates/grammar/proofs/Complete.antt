@@ -4,20 +4,20 @@ use mathlib.Core.List.{List}
 use mathlib.Core.Bool.{Bool, true, false, _&&_, _||_, not}
 use Prim.Native.Nat.{ℕ, zero, suc, _+_, _≤_, _<_}
 use native.Mathlib.Omega.{arith}
-use borrow.Author.Tests.{lt-ltb, le-ltb, eq-eqb, ne-eqb}
 use lib.ListN.{length}
 use lib.Dec.{eqb}
+use borrow.Author.Tests.{lt-ltb, le-ltb, eq-eqb, ne-eqb}
 use Rattle.stream.specs.Reader.{reached}
-use Rattle.tree.specs.Forest.{Forest, none}
 use Rattle.stream.specs.Words.{kind}
+use Rattle.operators.specs.Ranks.{Ranks}
+use Rattle.tree.specs.Forest.{Forest, none}
 use Rattle.grammar.specs.Term.{Term, Look, ahead, next, check, second, far, must}
 use Rattle.grammar.specs.Member.{member}
-use Rattle.grammar.proofs.Form.{consumes, guarded, wellmade}
-use Rattle.operators.specs.Ranks.{Ranks}
-use Rattle.grammar.proofs.Derives.{Phrase, Phrases, Derives, Alone}
 use Rattle.grammar.specs.Reading.{Held, hold, startOf}
-use Rattle.grammar.proofs.Derives.{empty′, expect′, any′, leaf′, weigh′, coded′, plus′, exp′, operand′, stat′, seq′, this′, that′, above′, below′, node′, lead′, held′, kept′, iter′, again′}
 use Rattle.grammar.specs.Reading.{Out, fine, Reader, Readers, add, then, leads, keep, misfit, wrap, loop, read, alone, reach}
+use Rattle.grammar.proofs.Form.{consumes, guarded, wellmade}
+use Rattle.grammar.proofs.Derives.{Phrase, Phrases, Derives, Alone}
+use Rattle.grammar.proofs.Derives.{empty′, expect′, any′, leaf′, weigh′, coded′, plus′, exp′, operand′, stat′, seq′, this′, that′, above′, below′, node′, lead′, held′, kept′, iter′, again′}
 use Rattle.grammar.proofs.Tests.{and-left, and-right, yes-case, no-case}
 use Rattle.grammar.proofs.Forward.{Moves, Steps, moves, steps-alone}
 

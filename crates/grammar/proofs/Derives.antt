@@ -1,9 +1,9 @@
 -- Another meaning of terms: which trees the tokens from one place to another derive. Nothing is said of steps, marks or refusals;
 -- it stands between the grammar of section 9 and the reading. Assumes nothing: these are definitions.
 use mathlib.Core.Path.{_≡_}
-use Prim.Native.Nat.{ℕ, zero, suc, _+_, _-_, _≤_, _<_}
 use mathlib.Core.List.{List}
 use mathlib.Core.Bool.{Bool, true, false}
+use Prim.Native.Nat.{ℕ, zero, suc, _+_, _-_, _≤_, _<_}
 use Rattle.stream.specs.Words.{kind, payload}
 use Rattle.operators.specs.Ranks.{Ranks, code}
 use Rattle.tree.specs.Forest.{Forest, none, tree, join}

@@ -5,19 +5,19 @@ use mathlib.Core.Bool.{true, false, _&&_}
 use Prim.Native.Nat.{ℕ, _+_, _≤_, _<_}
 use native.Mathlib.Omega.{arith}
 use native.Mathlib.Decide.{decLt}
-use borrow.Author.Tests.{ltb-true}
 use lib.ListN.{length}
 use lib.Dec.{ltb}
-use Rattle.tree.specs.Forest.{Forest}
+use borrow.Author.Tests.{ltb-true}
 use Rattle.stream.specs.Words.{kind}
 use Rattle.stream.proofs.Words.{inside as record-inside}
+use Rattle.operators.specs.Ranks.{Ranks}
+use Rattle.tree.specs.Forest.{Forest}
 use Rattle.grammar.specs.Term.{Term}
+use Rattle.grammar.specs.Term.{_⨾_, on, operator, lead, again}
+use Rattle.grammar.specs.Reading.{Held}
 use Rattle.grammar.proofs.Tests.{wrong, and-left, and-right, or-elim}
 use Rattle.grammar.proofs.Form.{consumes, guarded, wellmade}
-use Rattle.grammar.specs.Term.{_⨾_, on, operator, lead, again}
-use Rattle.operators.specs.Ranks.{Ranks}
 use Rattle.grammar.proofs.Derives.{Phrase, Phrases, Derives, Alone}
-use Rattle.grammar.specs.Reading.{Held}
 use Rattle.grammar.proofs.Derives.{empty′, expect′, any′, leaf′, weigh′, coded′, plus′, exp′, operand′, stat′, seq′, this′, that′, above′, below′, node′, lead′, held′, kept′, iter′, again′}
 
 pub inside : (s : List ℕ) (i : ℕ) → (kind s i ≡ 59 → ⊥) → i < length s

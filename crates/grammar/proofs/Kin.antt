@@ -4,21 +4,21 @@ use mathlib.Core.List.{List}
 use mathlib.Core.Bool.{Bool, true, false, _&&_}
 use mathlib.Core.Logic.{_⊎_, inl, inr}
 use Prim.Native.Nat.{ℕ, zero, suc, _-_}
-use borrow.Author.Tests.{eqb-true}
 use lib.ListN.{length}
 use lib.Dec.{eqb, ltb}
+use borrow.Author.Tests.{eqb-true}
 use Rattle.stream.specs.Reader.{reached}
-use Rattle.tree.specs.Forest.{Forest, none, tree, join}
 use Rattle.stream.specs.Words.{kind}
+use Rattle.stream.specs.declared.reader.Refusal.{Refusal}
+use Rattle.operators.specs.Ranks.{Ranks}
+use Rattle.tree.specs.Forest.{Forest, none, tree, join}
 use Rattle.grammar.specs.Term.{Term, far, must, Line, here, back, Shape}
 use Rattle.grammar.specs.Member.{member}
-use Rattle.grammar.proofs.Form.{plain, closed}
 use Rattle.grammar.specs.Term.{empty, expect, any, leaf, weigh, coded, plus, exp, operand, stat, _⨾_, on, operator, refuse, node, lead, held, kept, iter, again}
-use Rattle.operators.specs.Ranks.{Ranks}
 use Rattle.grammar.specs.Compare.{Rises, stays, deeper, Like, nones, trees, expressions}
 use Rattle.grammar.specs.Reading.{hold, shaped, last, ends}
-use Rattle.stream.specs.declared.reader.Refusal.{Refusal}
 use Rattle.grammar.specs.Reading.{Out, fine, fail, Reader, Readers, add, then, leads, keep, misfit, wrap, loop, read, alone, reach}
+use Rattle.grammar.proofs.Form.{plain, closed}
 use Rattle.grammar.proofs.Tests.{wrong, and-left, and-right}
 
 -- a relation of answers, over one of trees, that what is made of answers keeps

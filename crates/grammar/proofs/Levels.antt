@@ -5,25 +5,25 @@ use mathlib.Core.Bool.{true, _&&_}
 use mathlib.Core.Logic.{inr}
 use Prim.Native.Nat.{ℕ, zero, suc, _≤_}
 use native.Mathlib.Omega.{arith}
-use borrow.Author.Tests.{eqb-true, eq-eqb}
 use lib.Dec.{eqb}
 use lib.ListN.{length}
-use Rattle.tree.specs.Forest.{Forest}
+use borrow.Author.Tests.{eqb-true, eq-eqb}
 use Rattle.stream.specs.Words.{kind}
 use Rattle.stream.specs.Reader.{reached}
-use Rattle.grammar.specs.Term.{Term, iter}
-use Rattle.grammar.proofs.Form.{wellmade, guarded, consumes}
 use Rattle.operators.specs.Ranks.{Ranks}
-use Rattle.grammar.proofs.Derives.{Alone}
+use Rattle.tree.specs.Forest.{Forest}
+use Rattle.grammar.specs.Term.{Term, iter}
 use Rattle.grammar.specs.Reading.{Out, fine, fail, Reader, Held, alone, read}
 use Rattle.grammar.specs.Productions.{block, expression, statement}
-use Rattle.grammar.proofs.Derives.{phrases, Chunk}
 use Rattle.grammar.specs.Levels.{readers, finish, chunk}
+use Rattle.grammar.specs.Compare.{Rises, stays, deeper}
+use Rattle.grammar.proofs.Form.{wellmade, guarded, consumes}
+use Rattle.grammar.proofs.Derives.{Alone}
+use Rattle.grammar.proofs.Derives.{phrases, Chunk}
 use Rattle.grammar.proofs.Sound.{Fits, Sound, either, sound-alone}
 use Rattle.grammar.proofs.Tests.{and-left, and-right, yes-case}
 use Rattle.grammar.proofs.Forward.{Steps, steps-alone}
 use Rattle.grammar.proofs.Complete.{Accepts, Complete, complete-alone, complete-whole}
-use Rattle.grammar.specs.Compare.{Rises, stays, deeper}
 use Rattle.grammar.proofs.Kin.{kindred-alone, rises-kin}
 use Rattle.grammar.proofs.Unroll.{unroll}
 use Rattle.grammar.proofs.Made.{expression-made, statement-made, block-made}

@@ -4,6 +4,7 @@ pub mod Form
 pub mod Made
 pub mod Derives
 -- the grammar of section 9 and derivation are one
+pub mod Among
 pub mod Sets
 pub mod Shapes
 pub mod Turns

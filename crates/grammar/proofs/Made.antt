@@ -1,9 +1,9 @@
 -- The productions are well made. Assumes nothing: computed.
 use mathlib.Core.Path.{_≡_, refl}
 use mathlib.Core.Bool.{true, _&&_}
-use Rattle.grammar.proofs.Form.{wellmade, guarded, consumes, plain, closed}
 use Rattle.grammar.specs.Productions.{explist, retstat, block, parlist, funcbody, field, table, args, suffix, primary, suffixed, simple, head, tail, tails, expression}
 use Rattle.grammar.specs.Productions.{ifstat, whilestat, dostat, forstat, repeatstat, functionstat, localfunction, localstat, label, breakstat, gotostat, exprstat, statement}
+use Rattle.grammar.proofs.Form.{wellmade, guarded, consumes, plain, closed}
 
 pub expression-made : (wellmade expression && guarded expression && consumes expression) ≡ true
 unfolding explist retstat block parlist funcbody field table args suffix primary suffixed simple head tail tails expression

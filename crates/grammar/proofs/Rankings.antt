@@ -5,31 +5,31 @@ use mathlib.Core.Bool.{Bool, true, false}
 use mathlib.Core.Logic.{_⊎_, inl, inr}
 use Prim.Native.Nat.{ℕ, zero, suc, _+_, _-_, _≤_, _<_}
 use native.Mathlib.Omega.{arith}
-use borrow.Author.Tests.{ltb-true, lt-ltb, le-ltb}
 use lib.ListN.{length}
 use lib.Dec.{eqb, ltb}
+use borrow.Author.Tests.{ltb-true, lt-ltb, le-ltb}
 use Rattle.stream.specs.Reader.{reached}
-use Rattle.tree.specs.Forest.{Forest, none}
-use Rattle.stream.proofs.Reading.{reached-twice}
 use Rattle.stream.specs.Words.{kind}
+use Rattle.stream.specs.declared.reader.Refusal.{Refusal}
+use Rattle.stream.proofs.Reading.{reached-twice}
+use Rattle.operators.specs.Ranks.{Ranks}
+use Rattle.tree.specs.Forest.{Forest, none}
 use Rattle.grammar.specs.Term.{Term, next, Line, unlined, here, Shape}
 use Rattle.grammar.specs.Member.{member}
-use Rattle.grammar.proofs.Form.{wellmade, guarded, consumes}
 use Rattle.grammar.specs.Term.{any, plus, exp, _⨾_, on, node}
-use Rattle.operators.specs.Ranks.{Ranks}
 use Rattle.grammar.specs.Reading.{hold, shaped}
-use Rattle.grammar.proofs.Derives.{Derives}
-use Rattle.stream.specs.declared.reader.Refusal.{Refusal}
 use Rattle.grammar.specs.Reading.{Out, fine, fail, Reader, Readers, add, then, leads, keep, wrap, loop, read}
 use Rattle.grammar.specs.Productions.{simple, head, tail, tails, expression, statement, block}
-use Rattle.grammar.proofs.Derives.{phrases}
 use Rattle.grammar.specs.Levels.{readers, finish, chunk}
+use Rattle.grammar.specs.Compare.{Like, nones, trees, expressions}
+use Rattle.grammar.specs.Compare.{Alike, fines, fails, deep-left, deep-right}
+use Rattle.grammar.proofs.Form.{wellmade, guarded, consumes}
+use Rattle.grammar.proofs.Derives.{Derives}
+use Rattle.grammar.proofs.Derives.{phrases}
 use Rattle.grammar.proofs.Sound.{fits-map, sound, sound-loop}
 use Rattle.grammar.proofs.Tests.{wrong, and-left, and-right}
 use Rattle.grammar.proofs.Forward.{Step, stepped, moves}
-use Rattle.grammar.specs.Compare.{Like, nones, trees, expressions}
 use Rattle.grammar.proofs.Kin.{Kin, kindred, kindred-alone, either2, like-same, like-join, like-sym, like-trans, like-shaped}
-use Rattle.grammar.specs.Compare.{Alike, fines, fails, deep-left, deep-right}
 use Rattle.grammar.proofs.Made.{expression-made, head-made, tail-made, statement-plain, simple-plain, simple-closed, block-plain}
 use Rattle.grammar.proofs.Levels.{forward, sounds}
 use Rattle.grammar.proofs.Bare.{Bare, at, stop, bare, bind, bind-assoc, bind-cong, bare-add, bare-then, bare-wrap, Lower, alike, deep, lower-eq, lower-trans, lower-bind, Ahead, ahead-fits, bind-lower, bind-eq, take, take-ahead}

@@ -9,7 +9,7 @@ use Rattle.grammar.specs.Member.{member}
 use Rattle.grammar.specs.Reading.{last}
 use Rattle.grammar.specs.Grammar.{Phrases, Var, Functioncall, var-name, index, field, plain-call, method-call}
 
-last-join : (tag : ℕ) (t u : Forest) → last tag (join t u) ≡ last (last tag t) u
+pub last-join : (tag : ℕ) (t u : Forest) → last tag (join t u) ≡ last (last tag t) u
 last-join tag none u = refl
 last-join tag (tree tag′ value line place kids rest) u = last-join tag′ rest u
 

@@ -4,17 +4,18 @@ use mathlib.Core.List.{List}
 use mathlib.Core.Bool.{Bool, true, false, _&&_, _||_, not}
 use Prim.Native.Nat.{ℕ, zero, suc, _+_, _*_, _≤_}
 use native.Mathlib.Omega.{arith}
-use borrow.Author.Tests.{leb-true, leb-false}
 use lib.Dec.{leb}
-use Rattle.tree.specs.Forest.{Forest, none, tree, join, size}
+use borrow.Author.Tests.{leb-true, leb-false}
+use Rattle.operators.specs.Ranks.{Ranks}
+use Rattle.tree.specs.Forest.{Forest, size}
+use Rattle.tree.proofs.Lay.{size-join}
 use Rattle.grammar.specs.Term.{Term}
 use Rattle.grammar.specs.Term.{empty, expect, any, leaf, weigh, coded, plus, exp, operand, stat, _⨾_, on, operator, refuse, node, lead, held, kept, iter, again}
-use Rattle.operators.specs.Ranks.{Ranks}
-use Rattle.grammar.proofs.Derives.{Phrase, Phrases, Derives, Alone}
 use Rattle.grammar.specs.Reading.{Held}
-use Rattle.grammar.proofs.Derives.{empty′, expect′, any′, leaf′, weigh′, coded′, plus′, exp′, operand′, stat′, seq′, this′, that′, above′, below′, node′, lead′, held′, kept′, iter′, again′}
 use Rattle.grammar.specs.Productions.{explist, retstat, block, parlist, funcbody, field, table, args, suffix, primary, suffixed, simple, head, tail, tails, expression}
 use Rattle.grammar.specs.Productions.{ifstat, whilestat, dostat, forstat, repeatstat, functionstat, localfunction, localstat, label, breakstat, gotostat, exprstat, statement}
+use Rattle.grammar.proofs.Derives.{Phrase, Phrases, Derives, Alone}
+use Rattle.grammar.proofs.Derives.{empty′, expect′, any′, leaf′, weigh′, coded′, plus′, exp′, operand′, stat′, seq′, this′, that′, above′, below′, node′, lead′, held′, kept′, iter′, again′}
 use Rattle.grammar.proofs.Derives.{phrases, Chunk}
 use Rattle.grammar.proofs.Tests.{wrong, and-left, and-right}
 
@@ -107,10 +108,6 @@ frugal u again = true
 abbrev share : Bool → ℕ → ℕ
 share true n = n
 share false n = 0
-
-size-join : (a b : Forest) → size (join a b) ≡ size a + size b
-size-join none b = omega arith
-size-join (tree tag v l p k r) b = omega (arith, size-join r b)
 
 share-left : (a b : Bool) (n : ℕ) → share a n ≤ share (a || b) n
 share-left true b n = omega arith

@@ -3,21 +3,21 @@ use mathlib.Core.Path.{_≡_, refl}
 use mathlib.Core.List.{List}
 use mathlib.Core.Bool.{Bool, true, false, _&&_}
 use Prim.Native.Nat.{ℕ, zero, suc, _+_, _-_}
-use borrow.Author.Tests.{ltb-true, ltb-false, eqb-true, eqb-false}
 use lib.ListN.{length}
 use lib.Dec.{eqb, ltb}
+use borrow.Author.Tests.{ltb-true, ltb-false, eqb-true, eqb-false}
 use Rattle.stream.specs.Reader.{reached}
-use Rattle.tree.specs.Forest.{Forest, none, tree, join}
 use Rattle.stream.specs.Words.{kind}
+use Rattle.stream.specs.declared.reader.Refusal.{Refusal}
+use Rattle.operators.specs.Ranks.{Ranks}
+use Rattle.tree.specs.Forest.{Forest, none, tree, join}
 use Rattle.grammar.specs.Term.{Term, far, must, Line, Shape}
 use Rattle.grammar.specs.Member.{member}
 use Rattle.grammar.specs.Term.{empty, expect, any, leaf, weigh, coded, plus, exp, operand, stat, _⨾_, on, operator, refuse, node, lead, held, kept, iter, again}
-use Rattle.operators.specs.Ranks.{Ranks}
-use Rattle.grammar.proofs.Derives.{Phrase, Phrases, Derives, Alone}
 use Rattle.grammar.specs.Reading.{lineOf, Held, hold, startOf, shaped}
-use Rattle.grammar.proofs.Derives.{empty′, expect′, any′, leaf′, weigh′, coded′, plus′, exp′, operand′, stat′, seq′, this′, that′, above′, below′, node′, lead′, held′, kept′, iter′, again′}
-use Rattle.stream.specs.declared.reader.Refusal.{Refusal}
 use Rattle.grammar.specs.Reading.{Out, fine, fail, Reader, Readers, unexpected, add, then, leads, keep, misfit, wrap, loop, read, alone, reach}
+use Rattle.grammar.proofs.Derives.{Phrase, Phrases, Derives, Alone}
+use Rattle.grammar.proofs.Derives.{empty′, expect′, any′, leaf′, weigh′, coded′, plus′, exp′, operand′, stat′, seq′, this′, that′, above′, below′, node′, lead′, held′, kept′, iter′, again′}
 
 -- what holds of what is accepted
 abbrev pub Fits : (ℕ → Forest → ℕ → Type 0) → Out → Type 0

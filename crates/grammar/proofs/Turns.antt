@@ -1,6 +1,6 @@
 -- The bodies of the productions' repetitions, and what ends the stats of a block. Assumes nothing: these are definitions.
-use Prim.Native.Nat.{ℕ}
 use mathlib.Core.List.{List, [], _∷_}
+use Prim.Native.Nat.{ℕ}
 use Rattle.stream.specs.Kinds.{Else, ElseIf, End, EndOfStream, Return, Then, Until, Dots, Dot, SemiColon, Comma, RightBrace, Name}
 use Rattle.grammar.specs.Term.{Term, ahead, next, check, target, opt, _⇒_∣_, empty, any, leaf, plus, stat, _⨾_, on, refuse, kept, again}
 use Rattle.grammar.specs.Productions.{word, expr, nameleaf, block, field, suffix, suffixed}

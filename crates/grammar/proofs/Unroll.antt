@@ -8,14 +8,14 @@ use lib.ListN.{length}
 use lib.Dec.{eqb, ltb}
 use Rattle.stream.specs.Reader.{reached}
 use Rattle.stream.specs.Words.{kind}
+use Rattle.operators.specs.Ranks.{Ranks}
 use Rattle.grammar.specs.Term.{Term, far, must}
 use Rattle.grammar.specs.Member.{member}
-use Rattle.grammar.proofs.Form.{consumes, guarded, wellmade}
 use Rattle.grammar.specs.Term.{empty, expect, any, leaf, weigh, coded, plus, exp, operand, stat, _⨾_, on, operator, refuse, node, lead, held, kept, iter, again}
-use Rattle.operators.specs.Ranks.{Ranks}
-use Rattle.grammar.proofs.Derives.{Phrases, Derives}
 use Rattle.grammar.specs.Reading.{Held, hold, startOf}
 use Rattle.grammar.specs.Reading.{Out, fine, fail, Reader, Readers, add, then, leads, keep, misfit, wrap, loop, read, reach}
+use Rattle.grammar.proofs.Form.{consumes, guarded, wellmade}
+use Rattle.grammar.proofs.Derives.{Phrases, Derives}
 use Rattle.grammar.proofs.Sound.{Fits, Sound, fits-map, sound, sound-loop}
 use Rattle.grammar.proofs.Tests.{and-left, and-right}
 use Rattle.grammar.proofs.Forward.{Moves, Steps, moves}

@@ -7,7 +7,7 @@ use mathlib.Core.Bool.{Bool, true, false}
 use Prim.Native.Nat.{ℕ, zero, suc, _+_, _*_}
 use native.Mathlib.Omega.{arith}
 use native.Mathlib.Nat.{mul-one, mul-zero}
-use borrow.Author.Tests.{eq-eqb, eqb-true}
+use borrow.Author.Tests.{eqb-true}
 use Rattle.stream.specs.Kinds.{Else, ElseIf, End, EndOfStream, Function, In, Local, Not, Return, Until}
 use Rattle.stream.specs.Kinds.{Minus, Len, Dots, Assign, SemiColon, Colon, Comma, LeftParen, RightParen, LeftBracket, LeftBrace, RightBrace, String, Name}
 use Rattle.stream.specs.Words.{kind, payload}
@@ -26,6 +26,7 @@ use Rattle.grammar.specs.Grammar as G
 use Rattle.grammar.proofs.Derives.{Phrases, Derives}
 use Rattle.grammar.proofs.Derives.{empty′, expect′, any′, leaf′, weigh′, coded′, plus′, exp′, operand′, stat′, seq′, this′, that′, above′, below′, node′, lead′, held′, kept′, iter′, again′}
 use Rattle.grammar.proofs.Tests.{wrong, or-elim}
+use Rattle.grammar.proofs.Among.{one as is}
 use Rattle.grammar.proofs.Sets.{disjoint, subset, known, apart, within, only}
 use Rattle.grammar.proofs.Lower.{Lower, stat-tokens, retree, before}
 use Rattle.grammar.proofs.Turns.{stops, exp-turn, stat-turn, param-turn, field-turn, suffix-turn, elseif-turn, name-turn, fieldname-turn, target-turn}
@@ -38,10 +39,7 @@ block-ends = EndOfStream ∷ Else ∷ ElseIf ∷ End ∷ Until ∷ []
 abbrev field-ends : List ℕ
 field-ends = Comma ∷ SemiColon ∷ RightBrace ∷ []
 
--- a known kind is the one of a list of one; a kind of a list is none that isn't in it
-is : {x k : ℕ} → x ≡ k → member x (k ∷ []) ≡ true
-is {k} a = known (k ∷ []) a (rw (eq-eqb k k refl))
-
+-- a kind of a list is none that isn't in it
 clash : {A : Type 0} {x k : ℕ} (ks : List ℕ) → member x ks ≡ true → x ≡ k → member k ks ≡ false → A
 clash ks m a f = wrong (sym (known ks a f) ∙ m)
 

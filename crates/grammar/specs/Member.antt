@@ -1,7 +1,7 @@
 -- A kind among kinds. Assumes nothing: these are definitions.
-use Prim.Native.Nat.{ℕ}
 use mathlib.Core.List.{List, [], _∷_}
 use mathlib.Core.Bool.{Bool, false, _||_}
+use Prim.Native.Nat.{ℕ}
 use lib.Dec.{eqb}
 
 abbrev pub member : ℕ → List ℕ → Bool

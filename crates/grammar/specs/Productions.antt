@@ -1,7 +1,7 @@
 -- The reader's productions, one term each: section 9 as piccolo's parser goes through it. Assumes nothing: these are definitions.
-use Prim.Native.Nat.{ℕ, _+_}
 use mathlib.Core.List.{[], _∷_}
 use mathlib.Core.Bool.{true, false}
+use Prim.Native.Nat.{ℕ, _+_}
 use Rattle.stream.specs.Kinds.{Break, Do, Else, ElseIf, End, False, For, Function, Goto, If, In, Local, Nil, Not, Repeat, Return, Then, True, Until, While}
 use Rattle.stream.specs.Kinds.{Minus, Len, BitNotXor, Dots, Assign, Dot, SemiColon, Colon, DoubleColon, Comma, LeftParen, RightParen, LeftBracket, RightBracket, LeftBrace, RightBrace}
 use Rattle.stream.specs.Kinds.{Integer, Float, String, Name, EndOfStream}

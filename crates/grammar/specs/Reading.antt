@@ -1,7 +1,7 @@
 -- The meaning of terms: how far a reading comes, with the mark, or why it is refused. Assumes nothing: these are definitions.
-use Prim.Native.Nat.{ℕ, zero, suc, _+_, _-_}
 use mathlib.Core.List.{List, [], _∷_}
 use mathlib.Core.Bool.{Bool, true, false, _&&_}
+use Prim.Native.Nat.{ℕ, zero, suc, _+_, _-_}
 use lib.ListN.{length}
 use lib.Dec.{eqb, ltb}
 use Rattle.stream.specs.Words.{kind, payload, line}

@@ -1,7 +1,7 @@
 -- Terms of EBNF, in which the reader's productions are written. Assumes nothing: these are definitions.
-use Prim.Native.Nat.{ℕ, _+_}
 use mathlib.Core.List.{List, [], _∷_}
 use mathlib.Core.Bool.{Bool, true, false}
+use Prim.Native.Nat.{ℕ, _+_}
 
 infixr 30 _⨾_
 infixr 20 _⇒_∣_

@@ -1,7 +1,7 @@
 -- The operators and their ranks: 01's table. Assumes nothing: these are definitions.
-use Prim.Native.Nat.{ℕ}
 use mathlib.Core.List.{List, [], _∷_}
 use mathlib.Core.Bool.{true, false}
+use Prim.Native.Nat.{ℕ}
 use lib.Dec.{eqb, ltb}
 use Rattle.stream.specs.Kinds.{Or, And, Equal, LessThan, LessEqual, GreaterThan, GreaterEqual, NotEqual, BitOr, BitNotXor, BitAnd, ShiftLeft, ShiftRight}
 use Rattle.stream.specs.Kinds.{Concat, Add, Minus, Mul, Div, IDiv, Mod, Pow, Not, Len}

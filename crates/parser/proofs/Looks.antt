@@ -8,8 +8,8 @@ use Prim.Native.Nat.{ℕ, _+_, _*_, _≤_}
 use native.Mathlib.Decide.{ℕ-discrete}
 use native.Mathlib.Nat.{add-zero}
 use native.Mathlib.Omega.{arith}
-use borrow.Author.Tests.{ne-eqb}
 use lib.Dec.{eqb}
+use borrow.Author.Tests.{ne-eqb}
 use Rattle.stream.specs.Words.{kind}
 use Rattle.stream.specs.Formed.{Formed}
 use Rattle.stream.specs.Reader.{reached, readAhead, tokenAt, passed, expecting, getNext, takeNext, expectNext, lookAhead}
@@ -29,10 +29,10 @@ use Rattle.grammar.specs.Term.{Term, next, any, _⨾_, on, refuse}
 use Rattle.grammar.specs.Reading.{Out, fine, fail, Reader, Readers, Held, then, ended, read}
 use Rattle.grammar.specs.Productions.{word, look}
 use Rattle.grammar.proofs.Tests.{no-case}
+use Rattle.grammar.proofs.Among.{Unlike, unlike, other}
 use Rattle.parser.specs.Contract.{Fine, Meets, Sums, says, stepped, counting}
 use Rattle.parser.specs.declared.Step.{Step}
 use Rattle.parser.specs.declared.Sum.{Sum}
-use Rattle.parser.proofs.Among.{Unlike, unlike, other}
 use Rattle.parser.proofs.Steps.{got, saw, ran-out, got-line, get-place, took-next, next-fail, next-is}
 use Rattle.parser.proofs.Kit.{alter, lower, revalue, Going, fails, ends}
 use Rattle.parser.proofs.Tokens.{word-fail, word-fine}

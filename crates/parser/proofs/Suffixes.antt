@@ -13,7 +13,7 @@ use Rattle.stream.specs.declared.reader.Refusal.{Refusal}
 use Rattle.stream.proofs.Reading.{get-token}
 use Rattle.operators.specs.Ranks.{ranks}
 use Rattle.operators.specs.declared.Ranking.{Ranking}
-use Rattle.tree.specs.Forest.{Forest, none, tree, join}
+use Rattle.tree.specs.Forest.{Forest, none, join}
 use Rattle.tree.proofs.Lay.{join-none}
 use Rattle.grammar.specs.Member.{member}
 use Rattle.grammar.specs.Grammar.{first-suffix}
@@ -23,6 +23,7 @@ use Rattle.grammar.specs.Reading.{Out, fine, fail, Reader, hold, last, add, the
 use Rattle.grammar.specs.Reading.{ends as fitting}
 use Rattle.grammar.specs.Productions.{word, named, expr, table, primary, suffix, suffixed, args}
 use Rattle.grammar.specs.Levels.{readers}
+use Rattle.grammar.proofs.Shapes.{last-join}
 use Rattle.parser.specs.Parts as P
 use Rattle.parser.specs.Contract.{Fine, Meets, Suffixes, Calls, under, says, again, tagging, kids}
 use Rattle.parser.specs.declared.Step.{Step}
@@ -87,13 +88,9 @@ suffix-part s m low used more n n′ k tag l i {o} b y e r f q z = subst (Suffix
     go (Done c u) x = let a = alter e x in (y, (a, tag-is a tag (ap (last-from 0) e ∙ wrap-last s tag l i b (x .says))))
     go (Fail x) h = (y, e ∙ h)
 
--- the tag of the last tree, by a name that no variable of the code has; and of the last of two forests
+-- the tag of the last tree, by a name that no variable of the code has
 abbrev pub last-tag : ℕ → Forest → ℕ
 last-tag x t = last x t
-
-last-join : (x : ℕ) (t u : Forest) → last x (join t u) ≡ last (last x t) u
-last-join x none u = refl
-last-join x (tree tag value line place k rest) u = last-join tag rest u
 
 -- a suffix is one tree at least, so its tag is that of the last tree whatever stood before it
 wrap-same : (s : List ℕ) (tag : ℕ) (l : Line) (i x y : ℕ) (o : Out) → last-from x (wrap s tag l i o) ≡ last-from y (wrap s tag l i o)

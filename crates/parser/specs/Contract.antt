@@ -1,9 +1,9 @@
 -- What the members of the descent promise: their answer, and the array as they leave it, are those of the reading.
 -- Assumes nothing: these are definitions.
 use mathlib.Core.Path.{_≡_}
-use Prim.Native.Nat.{ℕ, _+_, _*_, _-_, _≤_, _<_}
 use mathlib.Core.List.{List, [], _∷_}
 use mathlib.Core.Bool.{Bool, true, false}
+use Prim.Native.Nat.{ℕ, _+_, _*_, _-_, _≤_, _<_}
 use lib.Dec.{eqb}
 use lib.Seq.{sets}
 use Rattle.stream.specs.Words.{records}

@@ -2,9 +2,9 @@
 -- And the shape of such a tree: operators stand among the parts of an expression and nowhere else, and no expression's record stands there.
 -- Assumes nothing: these are definitions.
 use mathlib.Core.Path.{_≡_}
-use Prim.Native.Nat.{ℕ, _≤_, _<_}
 use mathlib.Core.Bool.{Bool, true, _&&_, not}
 use mathlib.Core.List.{List, [], _∷_, _++_}
+use Prim.Native.Nat.{ℕ, _≤_, _<_}
 use Rattle.stream.specs.Words.{kind}
 use Rattle.operators.specs.Ranks.{Ranks}
 use Rattle.tree.specs.Forest.{Forest, none, tree}

@@ -1,10 +1,10 @@
 -- The machine over whole trees finds the first `~=` that quarrels. Assumes nothing.
-use Prim.Native.Nat.{ℕ}
 use mathlib.Core.Path.{_≡_, refl, sym, ap, ap₂, _∙_}
 use mathlib.Core.Bool.{Bool, true, false, _||_}
 use mathlib.Core.List.{List, [], _∷_, _++_}
 use mathlib.Core.Logic.{_↔_, _⊎_, inl, inr}
 use mathlib.Core.Option.{Option, some}
+use Prim.Native.Nat.{ℕ}
 use Rattle.tree.specs.Forest.{Forest, none, tree}
 use Rattle.quarrel.specs.Chains.{Op, op, expression, unary, tail, operators, operand, chains, within, inner}
 use Rattle.quarrel.specs.Rule.{In, here, there, Quarrelling, First}

@@ -1,10 +1,10 @@
 -- What is noted on the way is the machine's state, and of a derived tree it is the first `~=` that quarrels. Assumes nothing.
-use Prim.Native.Nat.{ℕ, _≤_, _<_, min}
 use mathlib.Core.Path.{_≡_, refl, sym, ap, _∙_, subst, subst₂}
 use mathlib.Core.Bool.{Bool, true, false, _||_}
 use mathlib.Core.List.{List}
 use mathlib.Core.Logic.{inl, inr}
 use mathlib.Core.Option.{Option, none, some}
+use Prim.Native.Nat.{ℕ, _≤_, _<_, min}
 use native.Mathlib.Omega.{arith}
 use lib.Dec.{eqb}
 use Rattle.stream.specs.Kinds.{NotEqual, EndOfStream}

@@ -1,8 +1,8 @@
 -- The terms whose trees fit a ranking piece by piece: they have to do with no ranks, and an expression's record in them holds no operators. Assumes nothing.
 use mathlib.Core.Path.{_≡_, refl, sym, subst}
-use Prim.Native.Nat.{ℕ}
 use mathlib.Core.Bool.{Bool, true, false, _&&_, _||_, not}
 use mathlib.Core.List.{List, []}
+use Prim.Native.Nat.{ℕ}
 use lib.Dec.{eqb}
 use borrow.Author.Tests.{not-true, eqb-true}
 use Rattle.operators.specs.Ranks.{Ranks}

@@ -1,7 +1,7 @@
 -- Two rankings side by side along the operators of a chain. Assumes nothing: these are definitions.
-use Prim.Native.Nat.{ℕ}
 use mathlib.Core.Bool.{Bool, true, false, _&&_}
 use mathlib.Core.List.{List, [], _∷_}
+use Prim.Native.Nat.{ℕ}
 use lib.Dec.{ltb}
 
 pub record Ranking (B : Type 0) : Type 0 where

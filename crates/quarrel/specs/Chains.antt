@@ -1,7 +1,7 @@
 -- The chains of a tree: the binary operators of one expression at one bracket level, in token order. Assumes nothing: these are definitions.
-use Prim.Native.Nat.{ℕ}
 use mathlib.Core.Bool.{Bool, true, false, _||_}
 use mathlib.Core.List.{List, [], _∷_, _++_}
+use Prim.Native.Nat.{ℕ}
 use lib.Dec.{eqb}
 use Rattle.stream.specs.Words.{kind}
 use Rattle.tree.specs.Forest.{Forest, none, tree}

@@ -1,9 +1,9 @@
 -- What is noted on the way: the rule heard operator by operator, and over whole trees. Assumes nothing: these are definitions.
 use mathlib.Core.Path.{_≡_}
-use Prim.Native.Nat.{ℕ, min}
 use mathlib.Core.Bool.{Bool, true, false}
 use mathlib.Core.List.{List}
 use mathlib.Core.Logic.{_⊎_}
+use Prim.Native.Nat.{ℕ, min}
 use lib.Dec.{eqb}
 use Rattle.stream.specs.Kinds.{NotEqual}
 use Rattle.stream.specs.Words.{kind}

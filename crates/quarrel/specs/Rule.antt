@@ -1,9 +1,9 @@
 -- 01's quarrel rule, in its own words, over the operators of a chain in token order. Assumes nothing: these are definitions.
 use mathlib.Core.Path.{_≡_}
-use Prim.Native.Nat.{ℕ, _≤_}
 use mathlib.Core.Bool.{true, false}
 use mathlib.Core.List.{List, [], _∷_, _++_}
 use mathlib.Core.Logic.{_⊎_}
+use Prim.Native.Nat.{ℕ, _≤_}
 use Rattle.stream.specs.Kinds.{And, Or, Minus, Add, BitNotXor, BitAnd, BitOr, ShiftRight, ShiftLeft, Concat, LessThan, LessEqual, GreaterThan, GreaterEqual, Equal, NotEqual}
 use Rattle.tree.specs.Forest.{Forest}
 use Rattle.grammar.specs.Member.{member}

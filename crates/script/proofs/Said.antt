@@ -6,11 +6,11 @@ use Prim.Native.Nat.{ℕ, _+_, _*_, _/_, _≤_}
 use native.Mathlib.Omega.{arith}
 use lib.ListN.{length, take, drop, replicate, length-append, length-replicate}
 use lib.Seq.{sets, sets-eq, take-at, length-sets}
+use Rattle.tree.specs.Forest.{size, flat}
+use Rattle.tree.proofs.Lay.{length-flat}
 use Rattle.lines.specs.Lines.{Line, words, shownAnswer, NoLine, Told}
 use Rattle.lines.specs.declared.Lines.the-variants.{Records, Bad}
 use Rattle.lines.proofs.Text.{length-words}
-use Rattle.tree.specs.Forest.{size, flat}
-use Rattle.tree.proofs.Lay.{length-flat}
 use Rattle.parser.specs.declared.Answer.{Answer}
 use Rattle.agreed.specs.Agreed.{Agreed}
 use Rattle.agreed.proofs.Theorems.{hands-over, handed}

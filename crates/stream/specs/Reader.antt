@@ -1,7 +1,7 @@
 -- 000's reader: what each of its functions gives, at a cursor with its place and its mark. Assumes nothing: these are definitions.
-use Prim.Native.Nat.{ℕ, _+_, _-_, _%_, _^_, min, max}
 use mathlib.Core.List.{List}
 use mathlib.Core.Bool.{true, false}
+use Prim.Native.Nat.{ℕ, _+_, _-_, _%_, _^_, min, max}
 use lib.Dec.{eqb}
 use Rattle.stream.specs.Kinds.{EndOfStream, Name}
 use Rattle.stream.specs.Words.{records, kind, payload, line, after}

@@ -1,7 +1,7 @@
 -- The words of a stream, four a record: kind, payload, line, after-line. Assumes nothing: these are definitions.
-use Prim.Native.Nat.{ℕ, _+_, _*_, _/_}
 use mathlib.Core.List.{List}
 use mathlib.Core.Bool.{true, false}
+use Prim.Native.Nat.{ℕ, _+_, _*_, _/_}
 use lib.ListN.{length, getD}
 use lib.Dec.{ltb}
 use Rattle.stream.specs.Kinds.{EndOfStream}

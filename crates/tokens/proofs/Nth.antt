@@ -7,8 +7,8 @@ use Rattle.stream.specs.Words.{records, kind}
 use Rattle.stream.specs.Reader.{tokenAt, readAhead, told, atEnd, lookAhead}
 use Rattle.stream.specs.declared.reader.Cursor.{Cursor}
 use Rattle.stream.specs.declared.reader.Look.the-variants.{Seen, End}
-use Rattle.tokens.specs.Steps.{start, stepped, steps, tokenAfter}
 use Rattle.stream.proofs.Reading.{look-end}
+use Rattle.tokens.specs.Steps.{start, stepped, steps, tokenAfter}
 use Rattle.tokens.proofs.Steps.{step-end, step-token}
 
 -- the cursor at n, once two tokens from there on were asked for

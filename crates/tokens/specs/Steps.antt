@@ -1,7 +1,7 @@
 -- Where a token reader stands, and where its steps lead. Assumes nothing: these are definitions.
-use Prim.Native.Nat.{ℕ, zero, suc}
 use mathlib.Core.List.{List}
 use mathlib.Core.Bool.{false}
+use Prim.Native.Nat.{ℕ, zero, suc}
 use Rattle.stream.specs.Reader.{readAhead, told, passed, atEnd, lookAhead}
 use Rattle.stream.specs.declared.reader.Cursor.{Cursor}
 use Rattle.tokens.specs.declared.TokenReader.{TokenReader}

@@ -21,7 +21,7 @@ use Rattle.parser.specs.Contract.{says, under, again}
 use Rattle.parser.specs.Parts as P
 use Rattle.stream.proofs.Words.{few}
 use Rattle.parser.proofs.Steps.{took-next, look-in, look-out, end-out, look-place, end-place, look-note, end-note}
-use Rattle.parser.proofs.Among.{among, one, other}
+use Rattle.grammar.proofs.Among.{among, one, other}
 use Rattle.parser.proofs.Kit.{add-none, then-assoc, kept, alter, revalue, renoted, looked, weighs, Going, begin, going-length, fails, ends, turns, stop, past, both}
 use Rattle.parser.proofs.Tokens.{ready-after, any-fail, any-fine}
 use Rattle.parser.proofs.Looks.{look-again, end-again}

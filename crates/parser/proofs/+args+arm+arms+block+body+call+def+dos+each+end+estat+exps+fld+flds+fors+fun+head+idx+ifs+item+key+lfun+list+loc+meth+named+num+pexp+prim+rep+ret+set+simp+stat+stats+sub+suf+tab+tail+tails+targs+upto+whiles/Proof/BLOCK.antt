@@ -24,7 +24,7 @@ use Rattle.grammar.specs.Term.{empty, plus, _⨾_}
 use Rattle.parser.specs.Contract.{again}
 use Rattle.stream.proofs.Words.{few}
 use Rattle.parser.proofs.Steps.{look-in, look-out, end-out, look-place, end-place, look-note, end-note, saw-line}
-use Rattle.parser.proofs.Among.{one, other}
+use Rattle.grammar.proofs.Among.{one, other}
 use Rattle.parser.proofs.Kit.{kept, ready-at, ready-seen, lower, alter, roomier, renoted, looked, weighed, stop, past, closed}
 use Rattle.parser.proofs.Looks.{looks-on}
 use Rattle.grammar.specs.Productions.{retstat, block as block′}

@@ -30,7 +30,7 @@ use Rattle.parser.specs.Contract.{under}
 use Rattle.parser.specs.Parts as P
 use Rattle.stream.proofs.Words.{few}
 use Rattle.parser.proofs.Steps.{look-in, look-out, end-out, look-place, end-place, look-note, end-note, saw-line}
-use Rattle.parser.proofs.Among.{among, nor}
+use Rattle.grammar.proofs.Among.{among, nor}
 use Rattle.parser.proofs.Kit.{kept, ready-at, ready-seen, alter, revalue, still, moved, weighed, stop, past, both, over}
 use Rattle.parser.proofs.Around.{settled-end, lead-stop, leads-is, held-at, keep-fine, keep-fail}
 use Rattle.parser.proofs.Suffixes.{suffixed-fits, called}

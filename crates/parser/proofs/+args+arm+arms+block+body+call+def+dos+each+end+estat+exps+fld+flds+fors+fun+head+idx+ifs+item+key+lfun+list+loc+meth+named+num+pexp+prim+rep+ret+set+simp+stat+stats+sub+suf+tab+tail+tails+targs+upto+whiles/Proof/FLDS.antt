@@ -28,7 +28,7 @@ use Rattle.parser.specs.Contract.{says, under}
 use Rattle.parser.specs.Parts as P
 use Rattle.stream.proofs.Words.{few}
 use Rattle.parser.proofs.Steps.{took-next, next-fail, next-in, next-out, check-in, check-out, check-place, get-place, check-note, get-note}
-use Rattle.parser.proofs.Among.{among, nor}
+use Rattle.grammar.proofs.Among.{among, nor}
 use Rattle.parser.proofs.Kit.{kept, alter, weighs, Going, begin, revalue-going, going-length, looks, fails, goes, stop}
 use Rattle.parser.proofs.Tokens.{any-fail, any-fine}
 use Rattle.parser.proofs.Looks.{counted-sums}

@@ -28,7 +28,7 @@ use Rattle.grammar.specs.Productions.{named}
 use Rattle.parser.specs.Contract.{says, again}
 use Rattle.parser.specs.Parts as P
 use Rattle.parser.proofs.Steps.{took-kind, took-name, next-in, next-out, get-place, get-note}
-use Rattle.parser.proofs.Among.{among, nor}
+use Rattle.grammar.proofs.Among.{among, nor}
 use Rattle.parser.proofs.Kit.{kept, moved, stop, past, both}
 use Rattle.parser.proofs.Tokens.{paid, name-fail, word-fail, name-fine, word-fine}
 use Rattle.parser.proofs.Looks.{got-again, refused, by-none, by-kind, by-others}

@@ -21,7 +21,7 @@ use Rattle.grammar.specs.Term.{empty}
 use Rattle.grammar.specs.Productions.{word}
 use Rattle.parser.specs.Contract.{again}
 use Rattle.parser.proofs.Steps.{next-fail, next-in, next-out, get-place, get-note}
-use Rattle.parser.proofs.Among.{one, other}
+use Rattle.grammar.proofs.Among.{one, other}
 use Rattle.parser.proofs.Kit.{kept, ready-at, ready-seen, alter, renoted, looked, follow, stop, past, onward-sum}
 use Rattle.parser.proofs.Tokens.{any-fail, any-fine}
 use Rattle.parser.proofs.Looks.{counted-sums}

@@ -23,7 +23,7 @@ use Rattle.grammar.specs.Term.{empty, any, on}
 use Rattle.parser.specs.Contract.{again}
 use Rattle.stream.proofs.Words.{few}
 use Rattle.parser.proofs.Steps.{look-in, look-out, end-in, look-place, end-place, look-note, end-note, saw-real}
-use Rattle.parser.proofs.Among.{among, nor}
+use Rattle.grammar.proofs.Among.{among, nor}
 use Rattle.parser.proofs.Kit.{kept, ready-at, ready-seen, moved-sum, looked, stop, past, closed}
 use Rattle.parser.proofs.Tokens.{word-fail, word-fine}
 use Rattle.grammar.specs.Productions.{explist, retstat}

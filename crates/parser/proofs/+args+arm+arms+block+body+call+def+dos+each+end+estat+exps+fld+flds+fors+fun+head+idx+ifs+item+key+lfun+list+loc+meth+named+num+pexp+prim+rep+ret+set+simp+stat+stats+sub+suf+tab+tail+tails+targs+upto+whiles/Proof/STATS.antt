@@ -24,7 +24,7 @@ use Rattle.grammar.specs.Term.{again as again′, stat as stat′}
 use Rattle.parser.specs.Contract.{says, under}
 use Rattle.parser.specs.Parts as P
 use Rattle.parser.proofs.Steps.{look-in, look-out, end-in, look-place, end-place, look-note, end-note, saw-real}
-use Rattle.parser.proofs.Among.{among, one, other, nor}
+use Rattle.grammar.proofs.Among.{among, one, other, nor}
 use Rattle.parser.proofs.Kit.{kept, alter, renoted, looked, Going, begin, going-length, fails, ends, turns, stop}
 use Rattle.parser.proofs.Tokens.{any-fail, any-fine}
 use Rattle.parser.proofs.Looks.{look-again}

@@ -19,7 +19,7 @@ use Rattle.grammar.specs.Term.{unlined}
 use Rattle.grammar.specs.Term.{any, weigh, _⨾_}
 use Rattle.grammar.specs.Productions.{word, named}
 use Rattle.parser.specs.Contract.{says}
-use Rattle.parser.proofs.Among.{among, nor}
+use Rattle.grammar.proofs.Among.{among, nor}
 use Rattle.parser.proofs.Kit.{kept}
 use Rattle.parser.proofs.Suffixes.{dotted-is, index-is, method-is, call-is, suffix-part}
 use Rattle.grammar.specs.Productions.{expr, args as args′}
