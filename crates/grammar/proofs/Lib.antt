@@ -9,6 +9,7 @@ pub mod Sets
 pub mod Shapes
 pub mod Turns
 pub mod Lower
+pub mod Opened
 pub mod Up
 pub mod Down
 pub mod Same
