@@ -71,7 +71,7 @@ class Found(unittest.TestCase):
         self.kit(f"mkdir -p {self.bin} && cp {made} {self.bin}/intake && cp {made} {self.bin}/batch")
         status, told, said = self.read(self.with_kit())
         self.assertEqual((status, told), (0, "standard input: accepted\n"))
-        self.assertIn("Everything is being proved first (rt check intake batch): some twenty minutes.", said)
+        self.assertIn("Everything is being proved first (rt check intake batch): six to fifteen minutes.", said)
         self.assertIn("proving intake batch", said)
 
     def test_the_proof_fails(self):

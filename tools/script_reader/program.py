@@ -99,7 +99,7 @@ class Programs:
 
 def prove(rt):
     print(
-        "The proved programs are not built yet. Everything is being proved first (rt check intake batch): some twenty minutes.",
+        "The proved programs are not built yet. Everything is being proved first (rt check intake batch): six to fifteen minutes.",
         file=sys.stderr,
         flush=True,
     )
