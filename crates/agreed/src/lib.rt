@@ -1,4 +1,6 @@
 // The agreed reading: a tree only where both rankings read the stream alike; else it goes back with the `~=` at fault.
+#![tactic(auto)]
+
 ghost use Rattle.std.specs.Prelude.{◌≡◌, [], ◌∷◌};
 ghost use Rattle.stream.specs.Words.{line as line_at};
 ghost use Rattle.grammar.specs.Member.{member};

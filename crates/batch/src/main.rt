@@ -2,6 +2,8 @@
 //
 // A line of standard input is a record in the form of 01's program, and a stream ends with its record of kind 3b. For each stream come
 // the crate, the manual and the agreed reading: the tree, a record a line, where there is one, and the five numbers of the answer.
+#![tactic(auto)]
+
 ghost use Rattle.std.specs.Prelude.{◌+◌, ◌*◌, ◌≤◌, ◌≡◌, length};
 
 use libc::STDOUT_FILENO;

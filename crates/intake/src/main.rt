@@ -1,4 +1,6 @@
 // The program at the scale: the agreed reading of the records on standard input, and its tree or its five numbers on standard output.
+#![tactic(auto)]
+
 use libc::STDOUT_FILENO;
 
 fn main() {

@@ -1,5 +1,7 @@
 // Records as lines of text, in the form of 01's program: four words in hexadecimal, 2, 16, 8 and 8 digits, a space between and a newline
 // at the end.
+#![tactic(auto)]
+
 ghost use Rattle.std.specs.Prelude.{◌≡◌, ◌+◌, ◌*◌, ◌^◌, ◌≤◌, ◌<◌, length, set};
 ghost use Rattle.std.proofs.lemmas.List.Edits.{sets};
 ghost use Rattle.lines.specs.Lines.{glyph, field, line, shown, shown_answer, Told};
@@ -31,7 +33,7 @@ fn digit(b: u8) -> u64
 }
 
 // A number of so many digits, or none.
-#[derive(Drop)]
+#[derive(Clone, Copy)]
 pub enum Value {
     Is(u64),
     Other,
@@ -83,7 +85,7 @@ fn take_line(text: &[u8], at: usize, stream: &mut [u64], index: usize) -> bool
 }
 
 // How many records the text has; or the first line that has another form, or is one too many.
-#[derive(Drop)]
+#[derive(Clone, Copy)]
 pub enum Lines {
     Records(usize),
     Bad(usize),

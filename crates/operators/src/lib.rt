@@ -1,4 +1,6 @@
 // 000's three lookups, each one decision over the token's kind.
+#![tactic(auto)]
+
 ghost use Rattle.std.specs.Prelude.{◌≡◌};
 ghost use Rattle.operators.specs.Ranks.{unary_operator, binary_operator, priority, ranks};
 
@@ -8,20 +10,20 @@ use stream::kinds::{
 };
 
 // An operator's number in the tree: its place in 000's enum.
-#[derive(Drop)]
+#[derive(Clone, Copy)]
 pub enum Operator {
     Found(u64),
     Nothing,
 }
 
 // Where `~=` stands: beside `+` and `-` in the crate, beside `==` in the manual.
-#[derive(Drop)]
+#[derive(Clone, Copy)]
 pub enum Ranking {
     Crate,
     Manual,
 }
 
-#[derive(Drop)]
+#[derive(Clone, Copy)]
 pub struct Priority {
     pub left: u64,
     pub right: u64,

@@ -3,6 +3,8 @@
 // Each function reads one production from a cursor on and lays its records from record `used` on, as far as they fit. Where it
 // makes a record of its own, its parts come first, behind it, and the record is put before them when value and size are known.
 // `g` is how many more guards may live. `let f = e` before a call, and `let r = ..; r`, keep the other ways' values in registers.
+#![tactic(auto)]
+
 ghost use Rattle.std.specs.Prelude.{◌≡◌, [], ◌∷◌, ℕ, ◌+◌, ◌*◌, ◌-◌, ◌≤◌, ◌<◌, false, eqb, length, replicate};
 ghost use Rattle.std.proofs.lemmas.List.Edits.{sets};
 ghost use Rattle.quarrel.specs.Notes.{NONE, note};
@@ -35,21 +37,21 @@ use stream::kinds::{
 use stream::reader::{Cursor, Look, Next, Note, Refusal};
 
 // Where a reading has come to, with the records that are used by then; or why it is refused.
-#[derive(Drop)]
+#[derive(Clone, Copy)]
 pub enum Step {
     Done(Cursor, usize),
     Fail(Refusal),
 }
 
 // The same, with a number: how many of a list were read, or the tag of the last record.
-#[derive(Drop)]
+#[derive(Clone, Copy)]
 pub enum Sum {
     Done(Cursor, usize, u64),
     Fail(Refusal),
 }
 
 // The five numbers of 01's answers.
-#[derive(Drop)]
+#[derive(Clone, Copy)]
 pub struct Answer {
     pub number: u64,
     pub line: u64,
@@ -1618,7 +1620,7 @@ fn pexp(
 }
 
 // A suffix with the tag of its record, no suffix, or a refusal.
-#[derive(Drop)]
+#[derive(Clone, Copy)]
 pub enum Part {
     Done(Cursor, usize, u64),
     Nothing,
@@ -2092,7 +2094,7 @@ fn key(
 // ---- the whole stream
 
 // An answer, and the token of the first `~=` that quarrels: none, where there is none or the stream is refused.
-#[derive(Drop)]
+#[derive(Clone, Copy)]
 pub struct Findings {
     pub answer: Answer,
     pub first: usize,

@@ -2,6 +2,8 @@
 //
 // A note has whether one of `== < <= > >= | ~ & << >> ..` was heard in this piece of the chain; the `~=` that waits for one of
 // `| ~ & << >> .. + -`; and the first that quarrels, of all that were found. `NONE` stands for no token.
+#![tactic(auto)]
+
 ghost use Rattle.std.specs.Prelude.{◌≡◌, true, false, min};
 ghost use Rattle.stream.specs.Kinds.{NotEqual};
 ghost use Rattle.quarrel.specs.Notes.{NONE, hears, fresh, resumed};

@@ -1,4 +1,6 @@
 // 01's program as a function of bytes: the text of a stream in, the bytes to print out.
+#![tactic(auto)]
+
 ghost use Rattle.std.specs.Prelude.{◌≡◌, ◌*◌, ◌/◌, ◌≤◌, length};
 ghost use Rattle.script.specs.Answers.{five, Put, Answers};
 ghost use Rattle.script.specs.Parts.{Wrote, PutTree, Reading};

@@ -4,7 +4,7 @@ ghost use Rattle.stream.specs.Formed.{token_words, end_words, Judged};
 
 use crate::kinds::{END_OF_STREAM, FLOAT, INTEGER};
 
-#[derive(Drop)]
+#[derive(Clone, Copy)]
 pub enum Form {
     Well,
     Bad(usize),

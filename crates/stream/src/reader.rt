@@ -6,7 +6,7 @@ ghost use Rattle.stream.specs.Reader.{token_at, reached, read_ahead, told, ended
 use crate::kinds::{END_OF_STREAM, NAME};
 
 // What a user of the cursor notes on the way: the reader's functions hand it on and never look at it.
-#[derive(Drop)]
+#[derive(Clone, Copy)]
 pub struct Note {
     pub waits: usize,
     pub found: usize,
@@ -14,14 +14,14 @@ pub struct Note {
 }
 
 // Where the reading is: the next token, how far the tokens were asked for, and what was noted by then.
-#[derive(Drop)]
+#[derive(Clone, Copy)]
 pub struct Cursor {
     pub place: usize,
     pub mark: usize,
     pub note: Note,
 }
 
-#[derive(Drop)]
+#[derive(Clone, Copy)]
 pub struct Token {
     pub kind: u64,
     pub payload: u64,
@@ -29,7 +29,7 @@ pub struct Token {
 }
 
 // Number, line, found and expected of 01's answers.
-#[derive(Drop)]
+#[derive(Clone, Copy)]
 pub struct Refusal {
     pub number: u64,
     pub line: u64,
@@ -38,20 +38,20 @@ pub struct Refusal {
 }
 
 // A token, or why there is none.
-#[derive(Drop)]
+#[derive(Clone, Copy)]
 pub enum Next {
     Took(Token, Cursor),
     Fail(Refusal),
 }
 
 // A token, or the end.
-#[derive(Drop)]
+#[derive(Clone, Copy)]
 pub enum Look {
     Seen(Token, Cursor),
     End(Cursor),
 }
 
-#[derive(Drop)]
+#[derive(Clone, Copy)]
 pub struct Check {
     pub found: bool,
     pub cursor: Cursor,

@@ -1,4 +1,6 @@
 // A token reader: a thin struct over the cursor's functions, for stepping through a lent stream.
+#![tactic(auto)]
+
 ghost use Rattle.std.specs.Prelude.{◌≡◌, ◌+◌};
 ghost use Rattle.stream.specs.Reader.{take_next, look_ahead, read_ahead, told};
 ghost use Rattle.tokens.specs.Steps.{start, moved, stepped, steps, token_after};
@@ -17,28 +19,28 @@ const START: Cursor = Cursor {
 };
 
 // The lent stream, and its place and its mark in a cursor.
-#[derive(Drop)]
+#[derive(Clone, Copy)]
 pub struct TokenReader<'a> {
     pub stream: &'a [u64],
     pub cursor: Cursor,
 }
 
 // The next token or the end, and the reading line by then.
-#[derive(Drop)]
+#[derive(Clone, Copy)]
 pub struct Stop {
     pub look: Look,
     pub line: u64,
 }
 
 // What `take_next` answers, and the cursor by then: a `Fail` has none.
-#[derive(Drop)]
+#[derive(Clone, Copy)]
 struct Taken {
     next: Next,
     cursor: Cursor,
 }
 
 // What `look_ahead` answers, and the cursor that it has.
-#[derive(Drop)]
+#[derive(Clone, Copy)]
 struct Looked {
     look: Look,
     cursor: Cursor,
