@@ -1,6 +1,5 @@
 -- The steps that the reader's functions share: read ahead, look at the token, and fail or take it. Assumes nothing.
 use Rattle.std.proofs.Common.{◌≡◌, ℕ, ◌+◌, ◌^◌, ◌<◌, List, length, sym, arith}
-use Rattle.stream.specs.Words.{kind}
 use Rattle.stream.specs.Reader.{token_at, reached, read_ahead, ended}
 use Rattle.stream.specs.declared.reader.Cursor.{Cursor}
 use Rattle.stream.specs.declared.reader.Token.{Token}

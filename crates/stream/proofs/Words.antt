@@ -1,5 +1,5 @@
 -- The words of a stream: inside and past its records, and what a well-formed stream has. Assumes nothing.
-use Rattle.std.proofs.Common.{◌≡◌, ℕ, ◌+◌, ◌-◌, ◌*◌, ◌%◌, ◌<◌, ◌≤◌, Bool, true, not, eqb, ltb, leb, List, length, get_or, sym, ◌∙◌, add-zero, arith, drop-cons, ltb-true, le-ltb, lt-ltb, eq-eqb, ne_eqb, eqb-true, leb-true}
+use Rattle.std.proofs.Common.{◌≡◌, ℕ, ◌+◌, ◌*◌, ◌%◌, ◌<◌, ◌≤◌, Bool, true, not, eqb, ltb, leb, List, length, get_or, sym, ◌∙◌, add-zero, arith, drop-cons, ltb-true, le-ltb, lt-ltb, eq-eqb, ne_eqb, eqb-true, leb-true}
 use mathlib.Core.Bool.{and-eq-true_iff}
 use mathlib.Core.Logic.{by_cases}
 use native.Mathlib.Decide.{dec_lt}
