@@ -35,6 +35,7 @@ pub const MIN_PRIORITY: u64 = 0;
 // Priority of all unary operators.
 pub const UNARY_PRIORITY: u64 = 12;
 
+#[tactic(auto, unfolding(crate::specs::Ranks::find, crate::specs::Ranks::unary_operator))]
 pub fn get_unary_operator(kind: u64) -> Operator
     ensures { result ≡ unary_operator kind }
 {
@@ -47,6 +48,7 @@ pub fn get_unary_operator(kind: u64) -> Operator
     }
 }
 
+#[tactic(auto, unfolding(crate::specs::Ranks::find, crate::specs::Ranks::binary_operator))]
 pub fn get_binary_operator(kind: u64) -> Operator
     ensures { result ≡ binary_operator kind }
 {
@@ -82,6 +84,7 @@ fn of(left: u64, right: u64) -> Priority
     Priority { left, right }
 }
 
+#[tactic(auto, unfolding(crate::specs::Ranks::find))]
 // The left and right priority of the binary operator that a token of this kind is; 0 where it is none.
 pub fn binary_priority(ranking: Ranking, kind: u64) -> Priority
     ensures { result ≡ priority (ranks ranking) kind }
