@@ -13,7 +13,7 @@ use Rattle.tree.specs.Forest.{Forest, none, tree, join}
 use Rattle.tree.proofs.Lay.{join_none, join_assoc}
 use Rattle.grammar.specs.Member.{member}
 use Rattle.grammar.specs.Term.{Term, Look, far, ahead, next, check, opt, many, ◌⨾◌, empty, any, leaf, coded, operand, plus, exp, stat, on, node, weigh, iter, again, held, kept, target, call, unlined, opening, here, back}
-use Rattle.grammar.specs.Reading.{Held, hold, shaped, last}
+use Rattle.grammar.specs.Reading.{Held, hold, shaped, last, line_of}
 use Rattle.grammar.specs.Productions.{word, named, look, nameleaf, expr}
 use Rattle.grammar.specs.Productions.{explist, retstat, block, parlist, funcbody, field, table, args, suffix, primary, suffixed, simple, head, tail, tails, expression}
 use Rattle.grammar.specs.Productions.{ifstat, whilestat, dostat, forstat, repeatstat, functionstat, localfunction, localstat, label, breakstat, gotostat, exprstat, statement}
@@ -25,7 +25,7 @@ use Rattle.grammar.proofs.Tests.{wrong}
 use Rattle.grammar.proofs.Sets.{known, apart, only}
 use Rattle.grammar.proofs.Lower.{Lower, retree, revalue, before}
 use Rattle.grammar.proofs.Turns.{stops, stat_turn, param_turn, field_turn, elseif_turn, name_turn, fieldname_turn, target_turn}
-use Rattle.grammar.proofs.Opened.{either, surely, word_then, any_then, plus_then, name_then}
+use Rattle.grammar.proofs.Opened.{either, surely, last_word, word_then, any_then, plus_then, name_then}
 use Rattle.grammar.proofs.Shapes.{last_var, last_call}
 
 module _ (s : List ℕ) (rank : Ranks) (limit : ℕ) (P : G.Phrases) (Q : Phrases) (low : Lower s P Q) where
@@ -71,10 +71,10 @@ module _ (s : List ℕ) (rank : Ranks) (limit : ℕ) (P : G.Phrases) (Q : Phrase
   from_exps : {h : Held} {w i j k v : ℕ} {t u : Forest} → P.exps 0 i j t → Many h check (Comma ∷ []) (any ⨾ plus w ⨾ expr) j k u v → Listed w i k (join t u) (w + v)
   from_exps {w = w} {t = t} e (stop y) =
       record { amount = 1; list = subst (G.Explist s rank P _ _ 1) (sym (join_none t)) (G.one-exp e y); weight = omega (arith, one-mul w) }
-  from_exps {w = w} e (turn y c r) =
+  from_exps {w = w} e (turn {i = m} y c r) =
       let (n, d, q) = plus_then (any_then c) in
       let f = from_expr d in
-      let g = from_exps f.0 r in
+      let g = from_exps {i = m + 1} f.0 r in
       record { amount = suc g.amount; list = G.more-exps e (only y) g.list; weight = omega (arith, suc-mul g.amount w, g.weight, f.1) }
 
   from_explist : {h : Held} {b : Term} {w i j v : ℕ} {t : Forest} → D h b (explist w) i j t v → Listed w i j t v
@@ -135,7 +135,9 @@ module _ (s : List ℕ) (rank : Ranks) (limit : ℕ) (P : G.Phrases) (Q : Phrase
     body : {i j v : ℕ} {b : Forest} → kind s i ≡ word → G.Block s rank P (i + 1) j b → kind s j ≡ End → v ≡ 0 → Body word i (j + 1) b v
 
   from_body : {h : Held} {c : Term} {n i j v : ℕ} {t : Forest} → D h c (word n ⨾ block ⨾ word End) i j t v → Body n i j t v
-  from_body {n = n} {i = i} {j = j} {v = v} (seq' (expect' x) (seq' {t = b} k (expect' y))) = let f = from_block k in subst (λ u. Body n i j u v) (sym (join_none b)) (body x f.0 y (omega (arith, f.1)))
+  from_body {n = n} {i = i} (seq' (expect' x) (seq' {j = m} {v = v} {t = b} k e)) =
+      let f = from_block k in
+      last_word (λ j u w. Body n i j (join b u) (0 + (v + w))) e (λ y. subst (λ u. Body n i (m + 1) u (0 + (v + 0))) (sym (join_none b)) (body x f.0 y (omega (arith, f.1))))
 
   light : {n i j v : ℕ} {b : Forest} → Body n i j b v → v ≡ 0
   light (body x b y e) = e
@@ -162,11 +164,22 @@ module _ (s : List ℕ) (rank : Ranks) (limit : ℕ) (P : G.Phrases) (Q : Phrase
   one_par x y (G.names-dots l a b) = revalue (G.Parlist s rank P _ _) (omega arith) (G.names-dots (G.more-names x y l) a b)
   one_par x y (G.dots z) = G.names-dots (G.one_name x) y z
 
+  -- the trees after the first
+  others : Forest → Forest
+  others none = none
+  others (tree a b c p k t) = t
+
+  first_par : {h : Held} {i j v : ℕ} {t : Forest} → Par h i j t v → ((i v : ℕ) → Par h i j (others t) v → G.Parlist s rank P i j v (others t)) → G.Parlist s rank P i j v t
+  unfolding others
+  first_par (dots x) f = G.dots x
+  first_par (par x (that' y empty') e) f = revalue (G.Parlist s rank P _ _) (sym e) (G.names (G.one_name x))
+  first_par (par x (this' y (seq' (any' z) (again' d))) e) f = revalue (G.Parlist s rank P _ _) (omega arith) (one_par x (only y) (f _ _ (from_par d)))
+
   -- each parameter but '...' is a tree
   from_pars : {h : Held} {i j v : ℕ} (t : Forest) → Par h i j t v → G.Parlist s rank P i j v t
+  unfolding others
   from_pars none (dots x) = G.dots x
-  from_pars (tree a b c p k t) (par x (that' y empty') e) = revalue (G.Parlist s rank P _ _) (sym e) (G.names (G.one_name x))
-  from_pars (tree a b c p k t) (par x (this' y (seq' (any' z) (again' d))) e) = revalue (G.Parlist s rank P _ _) (omega arith) (one_par x (only y) (from_pars t (from_par d)))
+  from_pars (tree a b c p k t) x = first_par x (λ i v y. from_pars {i = i} {v = v} t y)
 
   -- '(' [parlist] and its body
   defined : {h : Held} {c : Term} {i j k v w n : ℕ} {t b : Forest} → kind s i ≡ LeftParen → D h c (on check (RightParen ∷ []) empty parlist) (i + 1) j t v → Body RightParen j k b w → n ≡ v
@@ -214,9 +227,10 @@ module _ (s : List ℕ) (rank : Ranks) (limit : ℕ) (P : G.Phrases) (Q : Phrase
   from_fields : {h : Held} {i j v : ℕ} {t : Forest} → D h field_turn field_turn i j t v → Closing i j t v
   from_fields (this' y (expect' x)) = shut x
   from_fields (that' y (seq' plus' (seq' f (this' z (seq' (any' x) (again' d)))))) = let g = from_field f in one_field g.0 z (from_fields d) (omega (arith, g.1))
-  from_fields (that' y (seq' plus' (seq' {v = v} {t = t} f (that' z (expect' x))))) =
+  from_fields {i = i} (that' y (seq' plus' (seq' {v = v} {t = t} f (that' z e)))) =
       let g = from_field f in
-      filled {v = 1 + (v + 0)} (subst (G.Fieldlist s rank P _ _ 1) (sym (join_none t)) (G.last-field g.0)) x (omega (arith, g.1))
+      last_word (λ j u w. Closing i j (join t u) (1 + (v + w))) e
+      (λ x. filled {v = 1 + (v + 0)} (subst (G.Fieldlist s rank P _ _ 1) (sym (join_none t)) (G.last-field g.0)) x (omega (arith, g.1)))
 
   closed : {i j v w : ℕ} {t : Forest} → kind s i ≡ LeftBrace → Closing (i + 1) j t v → w ≡ v → G.Tableconstructor s rank P i j (made s 27 w i t)
   closed x (shut y) e = retree (G.Tableconstructor s rank P _ _) (sym e) refl (G.no_fields x y)
@@ -235,9 +249,10 @@ module _ (s : List ℕ) (rank : Ranks) (limit : ℕ) (P : G.Phrases) (Q : Phrase
   -- '(' [explist] ')'
   list_args : {h : Held} {b : Term} {w i j v : ℕ} {t : Forest} → kind s i ≡ LeftParen → D h b (on next (RightParen ∷ []) empty (explist w) ⨾ word RightParen) (i + 1) j t v → Argued w i j t v
   list_args {w = w} x (seq' (this' z empty') (expect' a)) = record { amount = 0; list = G.no-args x a; weight = omega (arith, zero-mul w) }
-  list_args x (seq' {t = t} (that' z l) (expect' a)) =
+  list_args {w = w} {i = i} x (seq' {v = v} {t = t} (that' z l) e) =
       let m = from_explist l in
-      record { amount = m.amount; list = subst (G.Args s rank P _ _ _) (sym (join_none t)) (G.list_args x m.list a); weight = omega (arith, m.weight) }
+      last_word (λ j u y. Argued w i j (join t u) (v + y)) e
+      (λ a. record { amount = m.amount; list = subst (G.Args s rank P _ _ _) (sym (join_none t)) (G.list_args x m.list a); weight = omega (arith, m.weight) })
 
   table_arg : {h : Held} {b : Term} {w i j v : ℕ} {t : Forest} → D h b (plus w ⨾ node 17 here unlined table) i j t v → Argued w i j t v
   table_arg {w = w} (seq' plus' (node' d)) =
@@ -266,9 +281,10 @@ module _ (s : List ℕ) (rank : Ranks) (limit : ℕ) (P : G.Phrases) (Q : Phrase
 
   index_suffix : {h : Held} {b : Term} {i j k n v : ℕ} {t u : Forest} → G.Prefixexp s rank P i j n t → kind s j ≡ LeftBracket → D h b (node 33 here unlined (any ⨾ expr ⨾ word RightBracket)) j k u v
       → Joined i k n t u × (v ≡ 0)
-  index_suffix {i = i} {k = k} {n = n} {t = t} p x (node' (seq' (any' y) (seq' {t = e} d (expect' a)))) =
+  index_suffix {i = i} {j = j} {n = n} {t = t} p x (node' (seq' (any' y) (seq' {j = m} {v = v} {t = e} d c))) =
       let f = from_expr d in
-      (retree (Joined i k n t) (omega (arith, f.1)) (sym (join_none e)) (G.var (G.index p x f.0 a)), refl)
+      last_word (λ k u w. Joined i k n t (tree 33 (0 + (v + w)) (line_of s unlined j k) j (join e u) none) × (◌≡◌ {A = ℕ} 0 0)) c
+      (λ a. (retree (Joined i (m + 1) n t) (omega (arith, f.1)) (sym (join_none e)) (G.var (G.index p x f.0 a)), refl))
 
   method_suffix : {h : Held} {b : Term} {i j k n v : ℕ} {t u : Forest} → G.Prefixexp s rank P i j n t → kind s j ≡ Colon → D h b (node 35 here unlined (any ⨾ named ⨾ weigh ⨾ args 0)) j k u v
       → Joined i k n t u × (v ≡ 0)
@@ -294,9 +310,10 @@ module _ (s : List ℕ) (rank : Ranks) (limit : ℕ) (P : G.Phrases) (Q : Phrase
   from_var x (seq' (any' y) leaf') = (named_var (name_back x), refl)
 
   from_group : {h : Held} {b : Term} {i j v : ℕ} {t : Forest} → kind s i ≡ LeftParen → D h b (node 31 here unlined (any ⨾ expr ⨾ word RightParen)) i j t v → G.Prefixexp s rank P i j 0 t × (v ≡ 0)
-  from_group x (node' (seq' (any' y) (seq' {t = e} d (expect' a)))) =
+  from_group {i = i} x (node' (seq' (any' y) (seq' {v = v} {t = e} d c))) =
       let f = from_expr d in
-      (retree (G.Prefixexp s rank P _ _ 0) (omega (arith, f.1)) (sym (join_none e)) (G.group x f.0 a), refl)
+      last_word (λ j u w. G.Prefixexp s rank P i j 0 (tree 31 (0 + (v + w)) (line_of s unlined i j) i (join e u) none) × (◌≡◌ {A = ℕ} 0 0)) c
+      (λ a. (retree (G.Prefixexp s rank P _ _ 0) (omega (arith, f.1)) (sym (join_none e)) (G.group x f.0 a), refl))
 
   from_primary : {h : Held} {b : Term} {i j v : ℕ} {t : Forest} → D h b primary i j t v → G.Prefixexp s rank P i j 0 t × (v ≡ 0)
   unfolding primary
@@ -434,12 +451,14 @@ module _ (s : List ℕ) (rank : Ranks) (limit : ℕ) (P : G.Phrases) (Q : Phrase
       branches {v = v} x g.0 m.list d (omega (arith, g.1, m.weight))
 
   choose : {h : Held} {c : Term} {i j k v w : ℕ} {e t : Forest} → kind s i ≡ If → P.exps 0 (i + 1) j e → Branches h c j k t v → w ≡ v → G.Stat s rank P i k (stated s 3 w i (join e t))
-  choose {e = e} x d (branches {b = b} {t = t} y k l (seq' (that' a empty') (expect' z)) q) r =
-      retree (G.Stat s rank P _ _) (omega arith) (ap (λ u. join e (join b u)) (sym (join_none t))) (G.if-end x d y k l z)
-  choose {e = e} x d (branches {b = b} {t = t} y k l (seq' {t = u} (this' a m) (expect' z)) q) r =
+  choose {i = i} {v = v} {w = w} {e = e} x d (branches {n = f} {b = b} {t = t} y k l (seq' (that' a empty') c) q) r =
+      last_word (λ k' u' w'. v ≡ 2 * f + (0 + w') → G.Stat s rank P i k' (stated s 3 w i (join e (join b (join t u'))))) c
+      (λ z q. retree (G.Stat s rank P _ _) (omega arith) (ap (λ u. join e (join b u)) (sym (join_none t))) (G.if-end x d y k l z)) q
+  choose {i = i} {v = v} {w = w} {e = e} x d (branches {n = f} {b = b} {t = t} y k l (seq' {v = o'} {t = u} (this' a m) c) q) r =
       let (n, o, p) = plus_then (any_then m) in
       let g = from_block o in
-      retree (G.Stat s rank P _ _) (omega (arith, g.1)) (ap (λ u. join e (join b (join t u))) (sym (join_none u))) (G.if-else x d y k l (only a) g.0 z)
+      last_word (λ k' u' w'. v ≡ 2 * f + (o' + w') → G.Stat s rank P i k' (stated s 3 w i (join e (join b (join t (join u u')))))) c
+      (λ z q. retree (G.Stat s rank P _ _) (omega (arith, g.1)) (ap (λ u. join e (join b (join t u))) (sym (join_none u))) (G.if-else x d y k l (only a) g.0 z)) q
 
   from_if : {h : Held} {b : Term} {i j v : ℕ} {t : Forest} → D h b ifstat i j t v → G.Stat s rank P i j t × (v ≡ 0)
   unfolding ifstat
@@ -449,9 +468,10 @@ module _ (s : List ℕ) (rank : Ranks) (limit : ℕ) (P : G.Phrases) (Q : Phrase
 
   from_do : {h : Held} {b : Term} {i j v : ℕ} {t : Forest} → kind s i ≡ Do → D h b dostat i j t v → G.Stat s rank P i j t × (v ≡ 0)
   unfolding dostat
-  from_do x (node' (seq' (any' y) (seq' {t = b} k (expect' z)))) =
+  from_do {i = i} x (node' (seq' (any' y) (seq' {v = v} {t = b} k c))) =
       let g = from_block k in
-      (retree (G.Stat s rank P _ _) (omega (arith, g.1)) (sym (join_none b)) (G.do-end x g.0 z), refl)
+      last_word (λ j u w. G.Stat s rank P i j (tree 5 (0 + (v + w)) (line_of s opening i j) i (join b u) none) × (◌≡◌ {A = ℕ} 0 0)) c
+      (λ z. (retree (G.Stat s rank P _ _) (omega (arith, g.1)) (sym (join_none b)) (G.do-end x g.0 z), refl))
 
   from_repeat : {h : Held} {b : Term} {i j v : ℕ} {t : Forest} → D h b repeatstat i j t v → G.Stat s rank P i j t × (v ≡ 0)
   unfolding repeatstat
@@ -461,10 +481,16 @@ module _ (s : List ℕ) (rank : Ranks) (limit : ℕ) (P : G.Phrases) (Q : Phrase
       let g = from_block k in
       (retree (G.Stat s rank P _ _) (omega (arith, f.1, g.1)) refl (G.repeat x g.0 y f.0), refl)
 
+  last_name : {i j m : ℕ} {t : Forest} → Named i j t → Ends s (Comma ∷ []) j → m ≡ 1 → G.Attnamelist s rank P i j m (join t none)
+  last_name (as-name x) y e = revalue (G.Attnamelist s rank P _ _) (sym e) (G.att x y)
+
+  next_name : {i j k m n : ℕ} {t u : Forest} → Named i j t → Among s (Comma ∷ []) j → G.Attnamelist s rank P (j + 1) k n u → m ≡ 1 + n → G.Attnamelist s rank P i k m (join t u)
+  next_name (as-name x) y l e = revalue (G.Attnamelist s rank P _ _) (omega arith) (G.atts x (only y) l)
+
   -- Name {',' Name}
   from_names : {h : Held} {i j k v m : ℕ} {t u : Forest} → Named i j t → Many h check (Comma ∷ []) (any ⨾ nameleaf ⨾ plus 1) j k u v → m ≡ 1 + v → G.Attnamelist s rank P i k m (join t u)
-  from_names (as-name x) (stop y) e = revalue (G.Attnamelist s rank P _ _) (sym e) (G.att x y)
-  from_names (as-name x) (turn y c d) e = let f = from_link c in revalue (G.Attnamelist s rank P _ _) (omega (arith, f.1)) (G.atts x (only y) (from_names f.0 d refl))
+  from_names x (stop y) e = last_name x y e
+  from_names x (turn {i = l} y c d) e = let f = from_link c in next_name x y (from_names {i = l + 1} f.0 d refl) (omega (arith, f.1))
 
   -- Name {',' Name}, and what comes after it
   data Names (h : Held) (b e : Term) : ℕ → ℕ → Forest → ℕ → Type 0 where
@@ -641,9 +667,9 @@ module _ (s : List ℕ) (rank : Ranks) (limit : ℕ) (P : G.Phrases) (Q : Phrase
 
   from_targets : {h : Held} {i j k v m : ℕ} {t u : Forest} → Target i j t → Many h check (Comma ∷ []) (any ⨾ kept target 3 suffixed ⨾ plus 1) j k u v → m ≡ 1 + v → G.Varlist s rank P i k m (join t u)
   from_targets {t = t} w (stop y) e = revalue (G.Varlist s rank P _ _) (sym e) (subst (G.Varlist s rank P _ _ 1) (sym (join_none t)) (one_var w))
-  from_targets w (turn y c q) e =
+  from_targets w (turn {i = m} y c q) e =
       let f = from_next c in
-      revalue (G.Varlist s rank P _ _) (omega (arith, f.1)) (more_vars w (only y) (from_targets f.0 q refl))
+      revalue (G.Varlist s rank P _ _) (omega (arith, f.1)) (more_vars w (only y) (from_targets {i = m + 1} f.0 q refl))
 
   -- {',' var} '=' explist
   assigned : {h : Held} {b : Term} {i j k v w : ℕ} {t u : Forest} → Target i j t → D h b (iter target_turn ⨾ word Assign ⨾ explist 0) j k u v → w ≡ 1 + v → G.Stat s rank P i k (stated s 16 w i (join t u))

@@ -7,7 +7,7 @@ use native.Mathlib.Omega.{arith}
 use Rattle.stream.specs.Kinds.{Name}
 use Rattle.stream.specs.Words.{kind, payload}
 use Rattle.operators.specs.Ranks.{Ranks}
-use Rattle.tree.specs.Forest.{Forest}
+use Rattle.tree.specs.Forest.{Forest, none}
 use Rattle.grammar.specs.Term.{Term, Look, far, expect, any, weigh, plus, ◌⨾◌, on, refuse}
 use Rattle.grammar.specs.Reading.{Held}
 use Rattle.grammar.specs.Productions.{named}
@@ -26,6 +26,11 @@ module _ {s : List ℕ} {rank : Ranks} {limit : ℕ} {P : Phrases} where
   -- the last choice
   pub surely : {A : Type 0} {h : Held} {b e : Term} {l : Look} {ks : List ℕ} {c i j v : ℕ} {t : Forest} → Derives s rank limit P h b (on l ks e (refuse c)) i j t v → (Among s ks (far l i) → Derives s rank limit P h b e i j t v → A) → A
   surely (this' y d) g = g y d
+  surely (that' y d) g = elim d [ ]
+
+  -- a token that is expected ends a phrase
+  pub last_word : {h : Held} {b : Term} {o : Bool} {k c i j v : ℕ} {t : Forest} (A : ℕ → Forest → ℕ → Type 0) → Derives s rank limit P h b (expect k c o) i j t v → (kind s i ≡ k → A (i + 1) none 0) → A j t v
+  last_word A (expect' x) f = f x
 
   -- what comes after a token that is expected, after any token, after a weight, and after a Name that weighs
   pub word_then : {h : Held} {b e : Term} {o : Bool} {k c i j v : ℕ} {t : Forest} → Derives s rank limit P h b (expect k c o ⨾ e) i j t v → (kind s i ≡ k) × Derives s rank limit P h b e (i + 1) j t v

@@ -15,7 +15,7 @@ use Rattle.operators.specs.Ranks.{Ranks, code, unary_code, find}
 use Rattle.tree.specs.Forest.{Forest, none, tree, join}
 use Rattle.tree.proofs.Lay.{join_none, join_assoc}
 use Rattle.grammar.specs.Member.{member}
-use Rattle.grammar.specs.Term.{Term, Look, ahead, next, check, second, far, unlined, here, call, many, opt}
+use Rattle.grammar.specs.Term.{Term, Look, ahead, next, check, second, far, unlined, here, many, opt}
 use Rattle.grammar.specs.Term.{empty, any, leaf, weigh, coded, plus, exp, operand, ◌⨾◌, on, node, iter, again}
 use Rattle.grammar.specs.Reading.{Held}
 use Rattle.grammar.specs.Productions.{word, nameleaf, explist, retstat, block, parlist, funcbody, args, suffix, primary, suffixed, simple, head, tail, tails, expression}
@@ -101,7 +101,7 @@ module _ (s : List ℕ) (rank : Ranks) (limit : ℕ) (P : G.Phrases) (Q : Phrase
       → D h b f i j t v → D h b (on l ks e f) i j t v
   outside {l} {ks} {i} xs m x d = that' (apart (kind s (far l i)) xs ks x m) d
 
-  pick_of : {h : Held} {b e : Term} {i j v : ℕ} {t : Forest} (xs : List ℕ) (a : Term) → Among s xs i → Picks xs e a → D h b a i j t v → D h b e i j t v
+  pick_of : (xs : List ℕ) {h : Held} {b e : Term} {i j v : ℕ} {t : Forest} (a : Term) → Among s xs i → Picks xs e a → D h b a i j t v → D h b e i j t v
   pick_of xs a m this d = d
   pick_of xs a m (first x p) d = inside xs m x (pick_of xs a m p d)
   pick_of xs a m (later x p) d = outside xs m x (pick_of xs a m p d)
@@ -287,10 +287,11 @@ module _ (s : List ℕ) (rank : Ranks) (limit : ℕ) (P : G.Phrases) (Q : Phrase
     module _ (A : ℕ → ℕ → ℕ → Forest → Type 0) (of-name : (i : ℕ) → kind s i ≡ Name → A i (i + 1) 0 (name s i))
         (of-group : (i j : ℕ) (e : Forest) → kind s i ≡ LeftParen → P.exps 0 (i + 1) j e → kind s j ≡ RightParen → A i (j + 1) 0 (made s 31 0 i e))
         (on-suffix : (i j k n : ℕ) (t u : Forest) → A i j n t → Among s first_suffix j → ((h : Held) (b : Term) → D h b suffix j k u 0) → A i k (suc n) (join t u)) where
-      of-prefixexp : {i j : ℕ} {t : Forest} (n : ℕ) → G.Prefixexp s rank P i j n t → A i j n t
+      of-prefixexp : (n : ℕ) {i j : ℕ} {t : Forest} → G.Prefixexp s rank P i j n t → A i j n t
       unfolding suffix
       of-prefixexp zero (G.var (G.var-name a)) = of-name _ a
       of-prefixexp zero (G.group a x c) = of-group _ _ _ a x c
+      of-prefixexp zero (G.functioncall x) = elim x [ ]
       of-prefixexp (suc n) (G.var (G.index p a x c)) =
           on-suffix _ _ _ _ _ _ (of-prefixexp n p) (known first_suffix a refl) (λ h b. not a refl (now a refl (node' (take a refl ▸ sub x ◂ expect' c))))
       of-prefixexp (suc n) (G.var (G.field p a c)) =
