@@ -34,4 +34,4 @@ loop-i-preserved c =
 pub returns-then-text-from : goal.returns-then-text-from
 returns-then-text-from c =
     let a = c.args in
-    λ w m e. c.if-text-from.true (field_end a.text.now m a.from a.digits w a.end e)
+    λ w m e. omega (arith, field_end a.text.now m a.from a.digits w a.end e)
