@@ -416,7 +416,7 @@ fn deep(stream: &[u64], c: Cursor) -> Step
 // ---- statements, block
 
 // parse_block: {stat} [retstat]
-#[cycle(args_arm_arms_block_body_call_def_dos_each_end_estat_exps_fld_flds_fors_fun_head_idx_ifs_item_key_lfun_list_loc_meth_named_num_pexp_prim_rep_ret_set_simp_stat_stats_sub_suf_tab_tail_tails_targs_upto_whiles)]
+#[cycle(descent)]
 fn block(
     stream: &[u64],
     nodes: &mut [u64],
@@ -454,7 +454,7 @@ fn block(
 }
 
 // {stat}: until the end, or a token that ends a block
-#[cycle(args_arm_arms_block_body_call_def_dos_each_end_estat_exps_fld_flds_fors_fun_head_idx_ifs_item_key_lfun_list_loc_meth_named_num_pexp_prim_rep_ret_set_simp_stat_stats_sub_suf_tab_tail_tails_targs_upto_whiles)]
+#[cycle(descent)]
 fn stats(
     stream: &[u64],
     nodes: &mut [u64],
@@ -515,7 +515,7 @@ fn stats(
 }
 
 // parse_statement
-#[cycle(args_arm_arms_block_body_call_def_dos_each_end_estat_exps_fld_flds_fors_fun_head_idx_ifs_item_key_lfun_list_loc_meth_named_num_pexp_prim_rep_ret_set_simp_stat_stats_sub_suf_tab_tail_tails_targs_upto_whiles)]
+#[cycle(descent)]
 fn stat(
     stream: &[u64],
     nodes: &mut [u64],
@@ -562,7 +562,7 @@ fn stat(
 }
 
 // parse_return_statement: return [explist] [';']; no list at the end of the block
-#[cycle(args_arm_arms_block_body_call_def_dos_each_end_estat_exps_fld_flds_fors_fun_head_idx_ifs_item_key_lfun_list_loc_meth_named_num_pexp_prim_rep_ret_set_simp_stat_stats_sub_suf_tab_tail_tails_targs_upto_whiles)]
+#[cycle(descent)]
 fn ret(
     stream: &[u64],
     nodes: &mut [u64],
@@ -606,7 +606,7 @@ fn ret(
 }
 
 // parse_if_statement: if exp then block {elseif exp then block} [else block] end; an else weighs 1
-#[cycle(args_arm_arms_block_body_call_def_dos_each_end_estat_exps_fld_flds_fors_fun_head_idx_ifs_item_key_lfun_list_loc_meth_named_num_pexp_prim_rep_ret_set_simp_stat_stats_sub_suf_tab_tail_tails_targs_upto_whiles)]
+#[cycle(descent)]
 fn ifs(
     stream: &[u64],
     nodes: &mut [u64],
@@ -652,7 +652,7 @@ fn ifs(
 }
 
 // exp then block
-#[cycle(args_arm_arms_block_body_call_def_dos_each_end_estat_exps_fld_flds_fors_fun_head_idx_ifs_item_key_lfun_list_loc_meth_named_num_pexp_prim_rep_ret_set_simp_stat_stats_sub_suf_tab_tail_tails_targs_upto_whiles)]
+#[cycle(descent)]
 fn arm(
     stream: &[u64],
     nodes: &mut [u64],
@@ -674,7 +674,7 @@ fn arm(
 }
 
 // {elseif exp then block}; each weighs 2
-#[cycle(args_arm_arms_block_body_call_def_dos_each_end_estat_exps_fld_flds_fors_fun_head_idx_ifs_item_key_lfun_list_loc_meth_named_num_pexp_prim_rep_ret_set_simp_stat_stats_sub_suf_tab_tail_tails_targs_upto_whiles)]
+#[cycle(descent)]
 fn arms(
     stream: &[u64],
     nodes: &mut [u64],
@@ -716,7 +716,7 @@ fn arms(
 }
 
 // block end
-#[cycle(args_arm_arms_block_body_call_def_dos_each_end_estat_exps_fld_flds_fors_fun_head_idx_ifs_item_key_lfun_list_loc_meth_named_num_pexp_prim_rep_ret_set_simp_stat_stats_sub_suf_tab_tail_tails_targs_upto_whiles)]
+#[cycle(descent)]
 fn end(
     stream: &[u64],
     nodes: &mut [u64],
@@ -735,7 +735,7 @@ fn end(
 }
 
 // do block end, of a loop
-#[cycle(args_arm_arms_block_body_call_def_dos_each_end_estat_exps_fld_flds_fors_fun_head_idx_ifs_item_key_lfun_list_loc_meth_named_num_pexp_prim_rep_ret_set_simp_stat_stats_sub_suf_tab_tail_tails_targs_upto_whiles)]
+#[cycle(descent)]
 fn body(
     stream: &[u64],
     nodes: &mut [u64],
@@ -754,7 +754,7 @@ fn body(
 }
 
 // parse_while_statement: while exp do block end
-#[cycle(args_arm_arms_block_body_call_def_dos_each_end_estat_exps_fld_flds_fors_fun_head_idx_ifs_item_key_lfun_list_loc_meth_named_num_pexp_prim_rep_ret_set_simp_stat_stats_sub_suf_tab_tail_tails_targs_upto_whiles)]
+#[cycle(descent)]
 fn whiles(
     stream: &[u64],
     nodes: &mut [u64],
@@ -783,7 +783,7 @@ fn whiles(
 }
 
 // do block end
-#[cycle(args_arm_arms_block_body_call_def_dos_each_end_estat_exps_fld_flds_fors_fun_head_idx_ifs_item_key_lfun_list_loc_meth_named_num_pexp_prim_rep_ret_set_simp_stat_stats_sub_suf_tab_tail_tails_targs_upto_whiles)]
+#[cycle(descent)]
 fn dos(
     stream: &[u64],
     nodes: &mut [u64],
@@ -809,7 +809,7 @@ fn dos(
 }
 
 // parse_for_statement
-#[cycle(args_arm_arms_block_body_call_def_dos_each_end_estat_exps_fld_flds_fors_fun_head_idx_ifs_item_key_lfun_list_loc_meth_named_num_pexp_prim_rep_ret_set_simp_stat_stats_sub_suf_tab_tail_tails_targs_upto_whiles)]
+#[cycle(descent)]
 fn fors(
     stream: &[u64],
     nodes: &mut [u64],
@@ -846,7 +846,7 @@ fn fors(
 }
 
 // '=' exp ',' exp [',' exp] do block end
-#[cycle(args_arm_arms_block_body_call_def_dos_each_end_estat_exps_fld_flds_fors_fun_head_idx_ifs_item_key_lfun_list_loc_meth_named_num_pexp_prim_rep_ret_set_simp_stat_stats_sub_suf_tab_tail_tails_targs_upto_whiles)]
+#[cycle(descent)]
 fn num(
     stream: &[u64],
     nodes: &mut [u64],
@@ -879,7 +879,7 @@ fn num(
 }
 
 // exp [',' exp] do block end
-#[cycle(args_arm_arms_block_body_call_def_dos_each_end_estat_exps_fld_flds_fors_fun_head_idx_ifs_item_key_lfun_list_loc_meth_named_num_pexp_prim_rep_ret_set_simp_stat_stats_sub_suf_tab_tail_tails_targs_upto_whiles)]
+#[cycle(descent)]
 fn upto(
     stream: &[u64],
     nodes: &mut [u64],
@@ -912,7 +912,7 @@ fn upto(
 }
 
 // {',' Name} in explist do block end, after the first name
-#[cycle(args_arm_arms_block_body_call_def_dos_each_end_estat_exps_fld_flds_fors_fun_head_idx_ifs_item_key_lfun_list_loc_meth_named_num_pexp_prim_rep_ret_set_simp_stat_stats_sub_suf_tab_tail_tails_targs_upto_whiles)]
+#[cycle(descent)]
 fn each(
     stream: &[u64],
     nodes: &mut [u64],
@@ -943,7 +943,7 @@ fn each(
 }
 
 // parse_repeat_statement: repeat block until exp
-#[cycle(args_arm_arms_block_body_call_def_dos_each_end_estat_exps_fld_flds_fors_fun_head_idx_ifs_item_key_lfun_list_loc_meth_named_num_pexp_prim_rep_ret_set_simp_stat_stats_sub_suf_tab_tail_tails_targs_upto_whiles)]
+#[cycle(descent)]
 fn rep(
     stream: &[u64],
     nodes: &mut [u64],
@@ -975,7 +975,7 @@ fn rep(
 }
 
 // parse_function_statement: function funcname funcbody
-#[cycle(args_arm_arms_block_body_call_def_dos_each_end_estat_exps_fld_flds_fors_fun_head_idx_ifs_item_key_lfun_list_loc_meth_named_num_pexp_prim_rep_ret_set_simp_stat_stats_sub_suf_tab_tail_tails_targs_upto_whiles)]
+#[cycle(descent)]
 fn fun(
     stream: &[u64],
     nodes: &mut [u64],
@@ -1007,7 +1007,7 @@ fn fun(
 }
 
 // parse_local_function_statement: local function Name funcbody
-#[cycle(args_arm_arms_block_body_call_def_dos_each_end_estat_exps_fld_flds_fors_fun_head_idx_ifs_item_key_lfun_list_loc_meth_named_num_pexp_prim_rep_ret_set_simp_stat_stats_sub_suf_tab_tail_tails_targs_upto_whiles)]
+#[cycle(descent)]
 fn lfun(
     stream: &[u64],
     nodes: &mut [u64],
@@ -1042,7 +1042,7 @@ fn lfun(
 }
 
 // parse_local_statement: local attnamelist ['=' explist]
-#[cycle(args_arm_arms_block_body_call_def_dos_each_end_estat_exps_fld_flds_fors_fun_head_idx_ifs_item_key_lfun_list_loc_meth_named_num_pexp_prim_rep_ret_set_simp_stat_stats_sub_suf_tab_tail_tails_targs_upto_whiles)]
+#[cycle(descent)]
 fn loc(
     stream: &[u64],
     nodes: &mut [u64],
@@ -1117,7 +1117,7 @@ fn misfit(number: u64, line: u64) -> Refusal
 }
 
 // parse_expression_statement: varlist '=' explist, or a functioncall
-#[cycle(args_arm_arms_block_body_call_def_dos_each_end_estat_exps_fld_flds_fors_fun_head_idx_ifs_item_key_lfun_list_loc_meth_named_num_pexp_prim_rep_ret_set_simp_stat_stats_sub_suf_tab_tail_tails_targs_upto_whiles)]
+#[cycle(descent)]
 fn estat(
     stream: &[u64],
     nodes: &mut [u64],
@@ -1176,7 +1176,7 @@ fn calling(
 }
 
 // {',' var} '=' explist, after the first target; the number is how many targets follow it
-#[cycle(args_arm_arms_block_body_call_def_dos_each_end_estat_exps_fld_flds_fors_fun_head_idx_ifs_item_key_lfun_list_loc_meth_named_num_pexp_prim_rep_ret_set_simp_stat_stats_sub_suf_tab_tail_tails_targs_upto_whiles)]
+#[cycle(descent)]
 fn set(
     stream: &[u64],
     nodes: &mut [u64],
@@ -1202,7 +1202,7 @@ fn set(
 }
 
 // {',' var}
-#[cycle(args_arm_arms_block_body_call_def_dos_each_end_estat_exps_fld_flds_fors_fun_head_idx_ifs_item_key_lfun_list_loc_meth_named_num_pexp_prim_rep_ret_set_simp_stat_stats_sub_suf_tab_tail_tails_targs_upto_whiles)]
+#[cycle(descent)]
 fn targs(
     stream: &[u64],
     nodes: &mut [u64],
@@ -1250,7 +1250,7 @@ fn targs(
 // ---- expressions and lists
 
 // parse_expression_list: exp {',' exp}
-#[cycle(args_arm_arms_block_body_call_def_dos_each_end_estat_exps_fld_flds_fors_fun_head_idx_ifs_item_key_lfun_list_loc_meth_named_num_pexp_prim_rep_ret_set_simp_stat_stats_sub_suf_tab_tail_tails_targs_upto_whiles)]
+#[cycle(descent)]
 fn exps(
     stream: &[u64],
     nodes: &mut [u64],
@@ -1300,7 +1300,7 @@ fn exps(
 }
 
 // parse_sub_expression: an expression whose operators rank above `limit`
-#[cycle(args_arm_arms_block_body_call_def_dos_each_end_estat_exps_fld_flds_fors_fun_head_idx_ifs_item_key_lfun_list_loc_meth_named_num_pexp_prim_rep_ret_set_simp_stat_stats_sub_suf_tab_tail_tails_targs_upto_whiles)]
+#[cycle(descent)]
 fn sub(
     stream: &[u64],
     nodes: &mut [u64],
@@ -1351,7 +1351,7 @@ fn back(limit: u64, outer: Cursor, c: Cursor) -> Cursor
 }
 
 // a unary operator and its operand, or a simple expression
-#[cycle(args_arm_arms_block_body_call_def_dos_each_end_estat_exps_fld_flds_fors_fun_head_idx_ifs_item_key_lfun_list_loc_meth_named_num_pexp_prim_rep_ret_set_simp_stat_stats_sub_suf_tab_tail_tails_targs_upto_whiles)]
+#[cycle(descent)]
 fn head(
     stream: &[u64],
     nodes: &mut [u64],
@@ -1387,7 +1387,7 @@ fn head(
 }
 
 // the binary operators above `limit`, each with its right operand
-#[cycle(args_arm_arms_block_body_call_def_dos_each_end_estat_exps_fld_flds_fors_fun_head_idx_ifs_item_key_lfun_list_loc_meth_named_num_pexp_prim_rep_ret_set_simp_stat_stats_sub_suf_tab_tail_tails_targs_upto_whiles)]
+#[cycle(descent)]
 fn tails(
     stream: &[u64],
     nodes: &mut [u64],
@@ -1445,7 +1445,7 @@ fn tails(
 }
 
 // a binary operator and its right operand
-#[cycle(args_arm_arms_block_body_call_def_dos_each_end_estat_exps_fld_flds_fors_fun_head_idx_ifs_item_key_lfun_list_loc_meth_named_num_pexp_prim_rep_ret_set_simp_stat_stats_sub_suf_tab_tail_tails_targs_upto_whiles)]
+#[cycle(descent)]
 fn tail(
     stream: &[u64],
     nodes: &mut [u64],
@@ -1514,7 +1514,7 @@ fn lone(stream: &[u64], nodes: &mut [u64], c: Cursor, used: usize) -> Part
 }
 
 // parse_simple_expression
-#[cycle(args_arm_arms_block_body_call_def_dos_each_end_estat_exps_fld_flds_fors_fun_head_idx_ifs_item_key_lfun_list_loc_meth_named_num_pexp_prim_rep_ret_set_simp_stat_stats_sub_suf_tab_tail_tails_targs_upto_whiles)]
+#[cycle(descent)]
 fn simp(
     stream: &[u64],
     nodes: &mut [u64],
@@ -1569,7 +1569,7 @@ fn simp(
 // ---- suffixes, primaries, arguments; the number is the tag of the last record among the parts
 
 // parse_suffixed_expression: primary {suffix}
-#[cycle(args_arm_arms_block_body_call_def_dos_each_end_estat_exps_fld_flds_fors_fun_head_idx_ifs_item_key_lfun_list_loc_meth_named_num_pexp_prim_rep_ret_set_simp_stat_stats_sub_suf_tab_tail_tails_targs_upto_whiles)]
+#[cycle(descent)]
 fn pexp(
     stream: &[u64],
     nodes: &mut [u64],
@@ -1637,7 +1637,7 @@ fn tagged(s: Step, tag: u64) -> Part
 }
 
 // parse_suffix_part, if a token of this kind begins one
-#[cycle(args_arm_arms_block_body_call_def_dos_each_end_estat_exps_fld_flds_fors_fun_head_idx_ifs_item_key_lfun_list_loc_meth_named_num_pexp_prim_rep_ret_set_simp_stat_stats_sub_suf_tab_tail_tails_targs_upto_whiles)]
+#[cycle(descent)]
 fn suf(
     stream: &[u64],
     nodes: &mut [u64],
@@ -1679,7 +1679,7 @@ fn field_name(stream: &[u64], nodes: &mut [u64], c: Cursor, used: usize) -> Step
 }
 
 // parse_field_suffix: '[' exp ']'
-#[cycle(args_arm_arms_block_body_call_def_dos_each_end_estat_exps_fld_flds_fors_fun_head_idx_ifs_item_key_lfun_list_loc_meth_named_num_pexp_prim_rep_ret_set_simp_stat_stats_sub_suf_tab_tail_tails_targs_upto_whiles)]
+#[cycle(descent)]
 fn idx(
     stream: &[u64],
     nodes: &mut [u64],
@@ -1707,7 +1707,7 @@ fn idx(
 }
 
 // parse_call_suffix: ':' Name args
-#[cycle(args_arm_arms_block_body_call_def_dos_each_end_estat_exps_fld_flds_fors_fun_head_idx_ifs_item_key_lfun_list_loc_meth_named_num_pexp_prim_rep_ret_set_simp_stat_stats_sub_suf_tab_tail_tails_targs_upto_whiles)]
+#[cycle(descent)]
 fn meth(
     stream: &[u64],
     nodes: &mut [u64],
@@ -1735,7 +1735,7 @@ fn meth(
 }
 
 // parse_call_suffix: args
-#[cycle(args_arm_arms_block_body_call_def_dos_each_end_estat_exps_fld_flds_fors_fun_head_idx_ifs_item_key_lfun_list_loc_meth_named_num_pexp_prim_rep_ret_set_simp_stat_stats_sub_suf_tab_tail_tails_targs_upto_whiles)]
+#[cycle(descent)]
 fn call(
     stream: &[u64],
     nodes: &mut [u64],
@@ -1754,7 +1754,7 @@ fn call(
 }
 
 // args ::= '(' [explist] ')' | tableconstructor | String; the number is how many
-#[cycle(args_arm_arms_block_body_call_def_dos_each_end_estat_exps_fld_flds_fors_fun_head_idx_ifs_item_key_lfun_list_loc_meth_named_num_pexp_prim_rep_ret_set_simp_stat_stats_sub_suf_tab_tail_tails_targs_upto_whiles)]
+#[cycle(descent)]
 fn args(
     stream: &[u64],
     nodes: &mut [u64],
@@ -1793,7 +1793,7 @@ fn args(
 }
 
 // '(' [explist] ')'
-#[cycle(args_arm_arms_block_body_call_def_dos_each_end_estat_exps_fld_flds_fors_fun_head_idx_ifs_item_key_lfun_list_loc_meth_named_num_pexp_prim_rep_ret_set_simp_stat_stats_sub_suf_tab_tail_tails_targs_upto_whiles)]
+#[cycle(descent)]
 fn list(
     stream: &[u64],
     nodes: &mut [u64],
@@ -1826,7 +1826,7 @@ fn list(
 }
 
 // parse_primary_expression: '(' exp ')' | Name
-#[cycle(args_arm_arms_block_body_call_def_dos_each_end_estat_exps_fld_flds_fors_fun_head_idx_ifs_item_key_lfun_list_loc_meth_named_num_pexp_prim_rep_ret_set_simp_stat_stats_sub_suf_tab_tail_tails_targs_upto_whiles)]
+#[cycle(descent)]
 fn prim(
     stream: &[u64],
     nodes: &mut [u64],
@@ -1867,7 +1867,7 @@ fn prim(
 // ---- definitions and tables
 
 // parse_function_definition: '(' [parlist] ')' block end
-#[cycle(args_arm_arms_block_body_call_def_dos_each_end_estat_exps_fld_flds_fors_fun_head_idx_ifs_item_key_lfun_list_loc_meth_named_num_pexp_prim_rep_ret_set_simp_stat_stats_sub_suf_tab_tail_tails_targs_upto_whiles)]
+#[cycle(descent)]
 fn def(
     stream: &[u64],
     nodes: &mut [u64],
@@ -1898,7 +1898,7 @@ fn def(
 }
 
 // parse_table_constructor: '{' [fieldlist] '}'
-#[cycle(args_arm_arms_block_body_call_def_dos_each_end_estat_exps_fld_flds_fors_fun_head_idx_ifs_item_key_lfun_list_loc_meth_named_num_pexp_prim_rep_ret_set_simp_stat_stats_sub_suf_tab_tail_tails_targs_upto_whiles)]
+#[cycle(descent)]
 fn tab(
     stream: &[u64],
     nodes: &mut [u64],
@@ -1923,7 +1923,7 @@ fn tab(
 }
 
 // [fieldlist] '}'
-#[cycle(args_arm_arms_block_body_call_def_dos_each_end_estat_exps_fld_flds_fors_fun_head_idx_ifs_item_key_lfun_list_loc_meth_named_num_pexp_prim_rep_ret_set_simp_stat_stats_sub_suf_tab_tail_tails_targs_upto_whiles)]
+#[cycle(descent)]
 fn flds(
     stream: &[u64],
     nodes: &mut [u64],
@@ -1979,7 +1979,7 @@ fn flds(
 }
 
 // parse_constructor_field: '[' exp ']' '=' exp | Name '=' exp | exp
-#[cycle(args_arm_arms_block_body_call_def_dos_each_end_estat_exps_fld_flds_fors_fun_head_idx_ifs_item_key_lfun_list_loc_meth_named_num_pexp_prim_rep_ret_set_simp_stat_stats_sub_suf_tab_tail_tails_targs_upto_whiles)]
+#[cycle(descent)]
 fn fld(
     stream: &[u64],
     nodes: &mut [u64],
@@ -2014,7 +2014,7 @@ fn fld(
 }
 
 // exp
-#[cycle(args_arm_arms_block_body_call_def_dos_each_end_estat_exps_fld_flds_fors_fun_head_idx_ifs_item_key_lfun_list_loc_meth_named_num_pexp_prim_rep_ret_set_simp_stat_stats_sub_suf_tab_tail_tails_targs_upto_whiles)]
+#[cycle(descent)]
 fn item(
     stream: &[u64],
     nodes: &mut [u64],
@@ -2033,7 +2033,7 @@ fn item(
 }
 
 // Name '=' exp
-#[cycle(args_arm_arms_block_body_call_def_dos_each_end_estat_exps_fld_flds_fors_fun_head_idx_ifs_item_key_lfun_list_loc_meth_named_num_pexp_prim_rep_ret_set_simp_stat_stats_sub_suf_tab_tail_tails_targs_upto_whiles)]
+#[cycle(descent)]
 fn named(
     stream: &[u64],
     nodes: &mut [u64],
@@ -2058,7 +2058,7 @@ fn named(
 }
 
 // '[' exp ']' '=' exp
-#[cycle(args_arm_arms_block_body_call_def_dos_each_end_estat_exps_fld_flds_fors_fun_head_idx_ifs_item_key_lfun_list_loc_meth_named_num_pexp_prim_rep_ret_set_simp_stat_stats_sub_suf_tab_tail_tails_targs_upto_whiles)]
+#[cycle(descent)]
 fn key(
     stream: &[u64],
     nodes: &mut [u64],

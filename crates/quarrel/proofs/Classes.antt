@@ -172,7 +172,7 @@ at f h o =
     let k = (and-eq-true_iff (f Concat) _).0 j.1 in
     let l = (and-eq-true_iff (f Sum) _).0 k.1 in
     let m = (and-eq-true_iff (f Product) _).0 l.1 in
-    elim o [ Or ↦ a.0 | And ↦ b.0 | Compare ↦ c.0 | NotEqual ↦ d.0 | BitOr ↦ e.0 | BitXor ↦ g.0 | BitAnd ↦ i.0 | Shift ↦ j.0 | Concat ↦ k.0 | Sum ↦ l.0 | Product ↦ m.0 | Power ↦ m.1 ]
+    elim o as (λ x. f x ≡ true) [ Or ↦ a.0 | And ↦ b.0 | Compare ↦ c.0 | NotEqual ↦ d.0 | BitOr ↦ e.0 | BitXor ↦ g.0 | BitAnd ↦ i.0 | Shift ↦ j.0 | Concat ↦ k.0 | Sum ↦ l.0 | Product ↦ m.0 | Power ↦ m.1 ]
 
 both : (Bool → Bool) → Bool
 both f = f true && f false

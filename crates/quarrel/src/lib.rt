@@ -23,6 +23,7 @@ fn lower(a: usize, b: usize) -> usize
 }
 
 // What an operator of this kind, at this place, adds to a note.
+#[tactic(auto, unfolding(crate::specs::Notes::hears))]
 fn heard(n: Note, kind: u64, place: usize) -> Note
     ensures { result ≡ hears n kind place }
 {
@@ -67,6 +68,7 @@ fn comparison(n: Note) -> Note
     }
 }
 
+#[tactic(auto, unfolding(crate::specs::Notes::hears))]
 fn unequal(n: Note, place: usize) -> Note
     ensures { result ≡ hears n NotEqual place }
 {
