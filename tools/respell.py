@@ -18,9 +18,9 @@ LETTER = r"[^\s(){}.;,@\"«»:\[\]|]"
 # Names whose plain spelling another definition or a function has already.
 APART = {"at-end": "only_at_end", "put-answer": "put_answer_lem", "put-tree": "put_tree_lem"}
 # Names that may be spelled as another: a definition that says what the function of that name answers; a field in another file.
-SAME = {"atEnd", "checkAhead", "expectName", "expectNext", "getNext", "lookAhead", "readAhead", "rightOf", "takeNext", "tokenAfter", "tokenAt"}
+SAME = {"atEnd", "field-name", "checkAhead", "expectName", "expectNext", "getNext", "lookAhead", "readAhead", "rightOf", "takeNext", "tokenAfter", "tokenAt"}
 TOP = re.compile(r"^(?:(?:abbrev|unfoldable|pub) )*(?:(?:data|record) )?(\S+(?: [^\s(){}:=]+)*?)(?: (?:\([^()]*\)|\{[^{}]*\}))* :(?= |$)")
-INSIDE = re.compile(r"^ {2}(?:pub )?([^\s(){}:]+(?: [^\s(){}:=]+)*?) : ")
+INSIDE = re.compile(r"^ {2,}(?:(?:abbrev|unfoldable|pub|data|record) )*([^\s(){}:=]+(?: [^\s(){}:=]+)*?)(?: (?:\([^()]*\)|\{[^{}]*\}))* : ")
 KIT = re.compile(r"^(?:ghost )?use (?:Rattle\.std|borrow|denote|lib|native|Prim|mathlib|seplogic)\..*$", re.M)
 NOT_DECLARING = ("--", "use ", "pub use ", "mod ", "pub mod ", "infix", "module ")
 
@@ -37,7 +37,7 @@ def declared(path):
             if line.startswith(NOT_DECLARING):
                 continue
             m = TOP.match(line) if not line.startswith(" ") else INSIDE.match(line)
-            if m:
+            if m and m[1].split()[0] not in ("let", "elim", "in"):
                 found |= set(m[1].split())
     return found
 

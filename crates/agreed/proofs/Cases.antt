@@ -70,8 +70,8 @@ module _ (s : List ℕ) (n n₁ : List ℕ) (a : Answer) (first : ℕ) (A1 : Ans
   -- one quarrels, so a tree was derived
   module _ (some : first ≡ NONE → ⊥) (n₂ : List ℕ) (b : Answer) (A2 : Answered s Manual n₁ n₂ b) where
     -- not derived under the manual's ranking: what the manual reading tells
-    pub manual-refuses : Left b → Agreed s n n₂ b
-    manual-refuses l =
+    pub manual_refuses : Left b → Agreed s n n₂ b
+    manual_refuses l =
         record {
           malformed = λ p m. absurd (some (N.unformed p m));
           agrees = λ t f c d k. absurd (no f d);

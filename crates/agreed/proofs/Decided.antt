@@ -44,23 +44,23 @@ module _ (s : List ℕ) (levels : ℕ) (n : List ℕ) where
       by_rule {t} {u} f c d (inl x) = by_size t f c (subst (Chunk s (ranks Manual) levels) (sym ((differ s levels c d).1 x)) d)
       by_rule {t} {u} f c d (inr x) = apart f c d (λ e. (differ s levels c d).0 e x.0 x.1.quarrelling) x.1
 
-      by-sides : Formed s → Side s Crate levels → Side s Manual levels → Case s levels n
-      by-sides f (refused none x) m = underived f none x
-      by-sides f (derived c) (refused none x) = deep f c none x
-      by-sides f (derived {t} c) (derived d) = by_rule f c d (none_or_first s t)
+      by_sides : Formed s → Side s Crate levels → Side s Manual levels → Case s levels n
+      by_sides f (refused none x) m = underived f none x
+      by_sides f (derived c) (refused none x) = deep f c none x
+      by_sides f (derived {t} c) (derived d) = by_rule f c d (none_or_first s t)
 
       by_form : Formed s ⊎ ((p : ℕ) × Malformed s p) → Case s levels n
-      by_form (inl f) = by-sides f (side s Crate levels) (side s Manual levels)
+      by_form (inl f) = by_sides f (side s Crate levels) (side s Manual levels)
       by_form (inr b) = bad b.1
 
 -- no second answer would do
 pub decided : (s n : List ℕ) {n' n'' : List ℕ} {a b : Answer} → Agreed s n n' a → Agreed s n n'' b → (a ≡ b) × (n' ≡ n'')
-decided s n {n'} {n''} {a} {b} x y = by-case (the_case s 199 n)
+decided s n {n'} {n''} {a} {b} x y = by_case (the_case s 199 n)
   where
-    by-case : Case s 199 n → (a ≡ b) × (n' ≡ n'')
-    by-case (bad {p} m) = agree (x.malformed p m) (y.malformed p m)
-    by-case (roomed {t} f c d l) = agree (x.agrees t f c d l) (y.agrees t f c d l)
-    by-case (cramped {t} f c d l) = agree (x.short t f c d l) (y.short t f c d l)
-    by-case (apart {t} {u} {i} f c d ne q) = agree (x.differs t u i f c d ne q) (y.differs t u i f c d ne q)
-    by-case (underived {e} f none z) = agree (x.refuses e f none z) (y.refuses e f none z)
-    by-case (deep {t} {e} f c none z) = agree (x.deeper t e f c none z) (y.deeper t e f c none z)
+    by_case : Case s 199 n → (a ≡ b) × (n' ≡ n'')
+    by_case (bad {p} m) = agree (x.malformed p m) (y.malformed p m)
+    by_case (roomed {t} f c d l) = agree (x.agrees t f c d l) (y.agrees t f c d l)
+    by_case (cramped {t} f c d l) = agree (x.short t f c d l) (y.short t f c d l)
+    by_case (apart {t} {u} {i} f c d ne q) = agree (x.differs t u i f c d ne q) (y.differs t u i f c d ne q)
+    by_case (underived {e} f none z) = agree (x.refuses e f none z) (y.refuses e f none z)
+    by_case (deep {t} {e} f c none z) = agree (x.deeper t e f c none z) (y.deeper t e f c none z)

@@ -34,9 +34,9 @@ module _ (s : List ℕ) where
   reads_join (c ∷ a) b x y = (x.0, reads_join a b x.1 y)
 
   mutual
-    read-operators : (t : Forest) → Read (operators s t)
-    read-operators none = tt
-    read-operators (tree tag value line place kids rest) = go (tail tag) (unary tag) (read-operand kids) (read-operators rest)
+    read_operators : (t : Forest) → Read (operators s t)
+    read_operators none = tt
+    read_operators (tree tag value line place kids rest) = go (tail tag) (unary tag) (read_operand kids) (read_operators rest)
       where
         go : (a b : Bool) → Read (operand s kids) → Read (operators s rest)
             → Read (elim a [
@@ -47,32 +47,32 @@ module _ (s : List ℕ) where
         go false true x y = read_join (operand s kids) (operators s rest) x y
         go false false x y = y
 
-    read-operand : (t : Forest) → Read (operand s t)
-    read-operand none = tt
-    read-operand (tree tag value line place kids rest) = read-operators kids
+    read_operand : (t : Forest) → Read (operand s t)
+    read_operand none = tt
+    read_operand (tree tag value line place kids rest) = read_operators kids
 
   mutual
-    read-chains : (t : Forest) → Reads (chains s t)
-    read-chains none = tt
-    read-chains (tree tag value line place kids rest) = go (expression tag) (read-within kids) (read-chains kids) (read-chains rest)
+    read_chains : (t : Forest) → Reads (chains s t)
+    read_chains none = tt
+    read_chains (tree tag value line place kids rest) = go (expression tag) (read_within kids) (read_chains kids) (read_chains rest)
       where
         go : (a : Bool) → Reads (within s kids) → Reads (chains s kids) → Reads (chains s rest)
             → Reads (elim a [ true ↦ operators s kids ∷ within s kids | false ↦ chains s kids ] ++ chains s rest)
-        go true x y z = (read-operators kids, reads_join (within s kids) (chains s rest) x z)
+        go true x y z = (read_operators kids, reads_join (within s kids) (chains s rest) x z)
         go false x y z = reads_join (chains s kids) (chains s rest) y z
 
-    read-within : (t : Forest) → Reads (within s t)
-    read-within none = tt
-    read-within (tree tag value line place kids rest) = go (tail tag || unary tag) (read-inner kids) (read-chains kids) (read-within rest)
+    read_within : (t : Forest) → Reads (within s t)
+    read_within none = tt
+    read_within (tree tag value line place kids rest) = go (tail tag || unary tag) (read_inner kids) (read_chains kids) (read_within rest)
       where
         go : (a : Bool) → Reads (inner s kids) → Reads (chains s kids) → Reads (within s rest)
             → Reads (elim a [ true ↦ inner s kids | false ↦ chains s kids ] ++ within s rest)
         go true x y z = reads_join (inner s kids) (within s rest) x z
         go false x y z = reads_join (chains s kids) (within s rest) y z
 
-    read-inner : (t : Forest) → Reads (inner s t)
-    read-inner none = tt
-    read-inner (tree tag value line place kids rest) = read-within kids
+    read_inner : (t : Forest) → Reads (inner s t)
+    read_inner none = tt
+    read_inner (tree tag value line place kids rest) = read_within kids
 
   read_in : {c : List Op} {cs : List (List Op)} → In c cs → Reads cs → Read c
   read_in here x = x.0
@@ -86,7 +86,7 @@ module _ (s : List ℕ) where
   unequal_there : {t : Forest} {i : ℕ} → Quarrelling s t i → kind s i ≡ NotEqual
   unequal_there {t} {i} q =
       let z = q.quarrels in
-      let x = read_one z.before q.one z.after (subst Read z.split (read_in q.its (read-chains t))) in
+      let x = read_one z.before q.one z.after (subst Read z.split (read_in q.its (read_chains t))) in
       ap (kind s) (sym q.there) ∙ sym x ∙ z.unequal
 
   -- so its index is far below the number that stands for none

@@ -40,15 +40,15 @@ module _ (s : List ℕ) (n n' : List ℕ) (a : Answer) (x : Agreed s n n' a) whe
 
   -- a tree is handed over exactly if it is derived under both, and has room
   pub hands_over : (a.number ≡ 0) ↔ Shared s 199 n
-  hands_over = (λ z. by-case z (the_case s 199 n), λ h. told (x.agrees h.it h.formed h.crate h.manual h.room).0)
+  hands_over = (λ z. by_case z (the_case s 199 n), λ h. told (x.agrees h.it h.formed h.crate h.manual h.room).0)
     where
-      by-case : a.number ≡ 0 → Case s 199 n → Shared s 199 n
-      by-case z (bad {p} m) = let e = told (x.malformed p m).0 in absurd (omega arith)
-      by-case z (roomed {t} f c d l) = record { formed = f; it = t; crate = c; manual = d; room = l }
-      by-case z (cramped {t} f c d l) = let e = told (x.short t f c d l).0 in absurd (omega arith)
-      by-case z (apart {t} {u} {i} f c d ne q) = let e = told (x.differs t u i f c d ne q).0 in absurd (omega arith)
-      by-case z (underived {e} f none y) = let k = numbers s Crate 199 f y in let w = told (x.refuses e f none y).0 in absurd (omega arith)
-      by-case z (deep {t} {e} f c none y) = let k = numbers s Manual 199 f y in let w = told (x.deeper t e f c none y).0 in absurd (omega arith)
+      by_case : a.number ≡ 0 → Case s 199 n → Shared s 199 n
+      by_case z (bad {p} m) = let e = told (x.malformed p m).0 in absurd (omega arith)
+      by_case z (roomed {t} f c d l) = record { formed = f; it = t; crate = c; manual = d; room = l }
+      by_case z (cramped {t} f c d l) = let e = told (x.short t f c d l).0 in absurd (omega arith)
+      by_case z (apart {t} {u} {i} f c d ne q) = let e = told (x.differs t u i f c d ne q).0 in absurd (omega arith)
+      by_case z (underived {e} f none y) = let k = numbers s Crate 199 f y in let w = told (x.refuses e f none y).0 in absurd (omega arith)
+      by_case z (deep {t} {e} f c none y) = let k = numbers s Manual 199 f y in let w = told (x.deeper t e f c none y).0 in absurd (omega arith)
 
   -- and then the array starts with its words, and is unchanged past them
   pub handed : (h : Shared s 199 n) → (a ≡ counting 0 (size h.it * 4)) × (n' ≡ flat h.it ++ drop (size h.it * 4) n)

@@ -49,11 +49,11 @@ module _ (s : List ℕ) (rank : Ranks) (limit : ℕ) (P : G.Phrases) (Q : Phrase
 
   -- Name, and its record
   data Named : ℕ → ℕ → Forest → Type 0 where
-    as-name : {i : ℕ} → kind s i ≡ Name → Named i (i + 1) (name s i)
+    as_name : {i : ℕ} → kind s i ≡ Name → Named i (i + 1) (name s i)
 
   -- a leaf is of the token before it
   name_back : {i : ℕ} → kind s i ≡ Name → Named i (i + 1) (tree 30 (payload s (i + 1 - 1)) 0 (i + 1 - 1) none none)
-  name_back {i} x = subst (λ p. Named i (i + 1) (name s p)) (sym (before i)) (as-name x)
+  name_back {i} x = subst (λ p. Named i (i + 1) (name s p)) (sym (before i)) (as_name x)
 
   from_nameleaf : {h : Held} {b : Term} {i j v : ℕ} {t : Forest} → D h b nameleaf i j t v → Named i j t × (v ≡ 0)
   from_nameleaf (seq' (expect' x) leaf') = (name_back x, refl)
@@ -70,12 +70,12 @@ module _ (s : List ℕ) (rank : Ranks) (limit : ℕ) (P : G.Phrases) (Q : Phrase
 
   from_exps : {h : Held} {w i j k v : ℕ} {t u : Forest} → P.exps 0 i j t → Many h check (Comma ∷ []) (any ⨾ plus w ⨾ expr) j k u v → Listed w i k (join t u) (w + v)
   from_exps {w = w} {t = t} e (stop y) =
-      record { amount = 1; list = subst (G.Explist s rank P _ _ 1) (sym (join_none t)) (G.one-exp e y); weight = omega (arith, one-mul w) }
+      record { amount = 1; list = subst (G.Explist s rank P _ _ 1) (sym (join_none t)) (G.one_exp e y); weight = omega (arith, one-mul w) }
   from_exps {w = w} e (turn {i = m} y c r) =
       let (n, d, q) = plus_then (any_then c) in
       let f = from_expr d in
       let g = from_exps {i = m + 1} f.0 r in
-      record { amount = suc g.amount; list = G.more-exps e (only y) g.list; weight = omega (arith, suc-mul g.amount w, g.weight, f.1) }
+      record { amount = suc g.amount; list = G.more_exps e (only y) g.list; weight = omega (arith, suc-mul g.amount w, g.weight, f.1) }
 
   from_explist : {h : Held} {b : Term} {w i j v : ℕ} {t : Forest} → D h b (explist w) i j t v → Listed w i j t v
   unfolding explist
@@ -102,7 +102,7 @@ module _ (s : List ℕ) (rank : Ranks) (limit : ℕ) (P : G.Phrases) (Q : Phrase
   from_retstat (node' (seq' (expect' x) (seq' {t = t} {u = u} (that' y l) o))) =
       let q = from_semi o in
       let m = from_explist l in
-      (retree (G.Retstat s rank P _ _) (omega (arith, q.light, m.weight)) (sym (ap (join t) q.nothing ∙ join_none t)) (G.return-exps x m.list q.there), refl)
+      (retree (G.Retstat s rank P _ _) (omega (arith, q.light, m.weight)) (sym (ap (join t) q.nothing ∙ join_none t)) (G.return_exps x m.list q.there), refl)
 
   -- stat | ';', and the stats after it
   next_stat : {h : Held} {b : Term} {i j k v : ℕ} {t u : Forest} → D h b (on ahead (SemiColon ∷ []) any stat) i j t v → G.Stats s rank P j k u → G.Stats s rank P i k (join t u) × (v ≡ 0)
@@ -124,7 +124,7 @@ module _ (s : List ℕ) (rank : Ranks) (limit : ℕ) (P : G.Phrases) (Q : Phrase
       let (n, r, q) = plus_then d in
       let g = from_retstat r in
       retree (G.Block s rank P _ _) (omega (arith, g.1)) (ap (join t) (sym (join_none u))) (G.returning l g.0)
-  ending {t = t} l (seq' (that' z empty') (that' y empty')) e = retree (G.Block s rank P _ _) (sym e) (sym (join_none t)) (G.open-ended l z)
+  ending {t = t} l (seq' (that' z empty') (that' y empty')) e = retree (G.Block s rank P _ _) (sym e) (sym (join_none t)) (G.open_ended l z)
 
   pub from_block : {h : Held} {b : Term} {i j v : ℕ} {t : Forest} → D h b block i j t v → G.Block s rank P i j t × (v ≡ 0)
   unfolding block
@@ -160,9 +160,9 @@ module _ (s : List ℕ) (rank : Ranks) (limit : ℕ) (P : G.Phrases) (Q : Phrase
 
   -- one parameter more
   one_par : {i j v : ℕ} {t : Forest} → kind s i ≡ Name → kind s (i + 1) ≡ Comma → G.Parlist s rank P (i + 1 + 1) j v t → G.Parlist s rank P i j (2 + v) (join (name s i) t)
-  one_par x y (G.names l) = revalue (G.Parlist s rank P _ _) (omega arith) (G.names (G.more-names x y l))
-  one_par x y (G.names-dots l a b) = revalue (G.Parlist s rank P _ _) (omega arith) (G.names-dots (G.more-names x y l) a b)
-  one_par x y (G.dots z) = G.names-dots (G.one_name x) y z
+  one_par x y (G.names l) = revalue (G.Parlist s rank P _ _) (omega arith) (G.names (G.more_names x y l))
+  one_par x y (G.names_dots l a b) = revalue (G.Parlist s rank P _ _) (omega arith) (G.names_dots (G.more_names x y l) a b)
+  one_par x y (G.dots z) = G.names_dots (G.one_name x) y z
 
   -- the trees after the first
   others : Forest → Forest
@@ -185,7 +185,7 @@ module _ (s : List ℕ) (rank : Ranks) (limit : ℕ) (P : G.Phrases) (Q : Phrase
   defined : {h : Held} {c : Term} {i j k v w n : ℕ} {t b : Forest} → kind s i ≡ LeftParen → D h c (on check (RightParen ∷ []) empty parlist) (i + 1) j t v → Body RightParen j k b w → n ≡ v
       → G.Funcbody s rank P i k (made s 28 n i (join t b))
   unfolding parlist
-  defined x (this' a empty') (body y b z w) e = retree (G.Funcbody s rank P _ _) (sym e) refl (G.no-pars x y b z)
+  defined x (this' a empty') (body y b z w) e = retree (G.Funcbody s rank P _ _) (sym e) refl (G.no_pars x y b z)
   defined x (that' a (iter' d)) (body y b z w) e = retree (G.Funcbody s rank P _ _) (sym e) refl (G.pars x (from_pars _ (from_par d)) y b z)
 
   from_funcbody : {h : Held} {b : Term} {i j v : ℕ} {t : Forest} → D h b funcbody i j t v → G.Funcbody s rank P i j t × (v ≡ 0)
@@ -221,8 +221,8 @@ module _ (s : List ℕ) (rank : Ranks) (limit : ℕ) (P : G.Phrases) (Q : Phrase
     filled : {i j n v : ℕ} {t : Forest} → G.Fieldlist s rank P i j n t → kind s j ≡ RightBrace → v ≡ n → Closing i (j + 1) t v
 
   one_field : {i j k v w : ℕ} {t u : Forest} → G.Field s rank P i j t → Among s fieldsep j → Closing (j + 1) k u v → w ≡ suc v → Closing i k (join t u) w
-  one_field {w = w} {t = t} f z (shut x) e = filled {v = w} (subst (G.Fieldlist s rank P _ _ 1) (sym (join_none t)) (G.last-field-sep f z)) x (omega arith)
-  one_field {w = w} f z (filled l x e) g = filled {v = w} (G.more-fields f z l) x (omega arith)
+  one_field {w = w} {t = t} f z (shut x) e = filled {v = w} (subst (G.Fieldlist s rank P _ _ 1) (sym (join_none t)) (G.last_field_sep f z)) x (omega arith)
+  one_field {w = w} f z (filled l x e) g = filled {v = w} (G.more_fields f z l) x (omega arith)
 
   from_fields : {h : Held} {i j v : ℕ} {t : Forest} → D h field_turn field_turn i j t v → Closing i j t v
   from_fields (this' y (expect' x)) = shut x
@@ -230,7 +230,7 @@ module _ (s : List ℕ) (rank : Ranks) (limit : ℕ) (P : G.Phrases) (Q : Phrase
   from_fields {i = i} (that' y (seq' plus' (seq' {v = v} {t = t} f (that' z e)))) =
       let g = from_field f in
       last_word (λ j u w. Closing i j (join t u) (1 + (v + w))) e
-      (λ x. filled {v = 1 + (v + 0)} (subst (G.Fieldlist s rank P _ _ 1) (sym (join_none t)) (G.last-field g.0)) x (omega (arith, g.1)))
+      (λ x. filled {v = 1 + (v + 0)} (subst (G.Fieldlist s rank P _ _ 1) (sym (join_none t)) (G.last_field g.0)) x (omega (arith, g.1)))
 
   closed : {i j v w : ℕ} {t : Forest} → kind s i ≡ LeftBrace → Closing (i + 1) j t v → w ≡ v → G.Tableconstructor s rank P i j (made s 27 w i t)
   closed x (shut y) e = retree (G.Tableconstructor s rank P _ _) (sym e) refl (G.no_fields x y)
@@ -248,7 +248,7 @@ module _ (s : List ℕ) (rank : Ranks) (limit : ℕ) (P : G.Phrases) (Q : Phrase
 
   -- '(' [explist] ')'
   list_args : {h : Held} {b : Term} {w i j v : ℕ} {t : Forest} → kind s i ≡ LeftParen → D h b (on next (RightParen ∷ []) empty (explist w) ⨾ word RightParen) (i + 1) j t v → Argued w i j t v
-  list_args {w = w} x (seq' (this' z empty') (expect' a)) = record { amount = 0; list = G.no-args x a; weight = omega (arith, zero-mul w) }
+  list_args {w = w} x (seq' (this' z empty') (expect' a)) = record { amount = 0; list = G.no_args x a; weight = omega (arith, zero-mul w) }
   list_args {w = w} {i = i} x (seq' {v = v} {t = t} (that' z l) e) =
       let m = from_explist l in
       last_word (λ j u y. Argued w i j (join t u) (v + y)) e
@@ -291,12 +291,12 @@ module _ (s : List ℕ) (rank : Ranks) (limit : ℕ) (P : G.Phrases) (Q : Phrase
   method_suffix {i = i} {k = k} {n = n} {t = t} p x (node' d) =
       let (w, y, r, q) = name_then (any_then d) in
       let f = from_args r in
-      (retree (Joined i k n t) (omega (arith, f.weight, mul-zero f.amount)) refl (G.functioncall (G.method-call p x y f.list)), refl)
+      (retree (Joined i k n t) (omega (arith, f.weight, mul-zero f.amount)) refl (G.functioncall (G.method_call p x y f.list)), refl)
 
   call_suffix : {h : Held} {b : Term} {i j k n v : ℕ} {t u : Forest} → G.Prefixexp s rank P i j n t → D h b (node 34 here unlined (args 1)) j k u v → Joined i k n t u × (v ≡ 0)
   call_suffix {i = i} {k = k} {n = n} {t = t} p (node' d) =
       let f = from_args d in
-      (retree (Joined i k n t) (omega (arith, f.weight, mul-one f.amount)) refl (G.functioncall (G.plain-call p f.list)), refl)
+      (retree (Joined i k n t) (omega (arith, f.weight, mul-one f.amount)) refl (G.functioncall (G.plain_call p f.list)), refl)
 
   from_suffix : {h : Held} {b : Term} {i j k n v : ℕ} {t u : Forest} → G.Prefixexp s rank P i j n t → D h b suffix j k u v → Joined i k n t u × (v ≡ 0)
   unfolding suffix
@@ -304,7 +304,7 @@ module _ (s : List ℕ) (rank : Ranks) (limit : ℕ) (P : G.Phrases) (Q : Phrase
       either d (λ y. dot_suffix p (only y)) (λ n d. either d (λ y. index_suffix p (only y)) (λ n d. either d (λ y. method_suffix p (only y)) (λ n. call_suffix p)))
 
   named_var : {i j : ℕ} {t : Forest} → Named i j t → G.Prefixexp s rank P i j 0 t
-  named_var (as-name x) = G.var (G.var-name x)
+  named_var (as_name x) = G.var (G.var_name x)
 
   from_var : {h : Held} {b : Term} {i j v : ℕ} {t : Forest} → kind s i ≡ Name → D h b (any ⨾ leaf 30) i j t v → G.Prefixexp s rank P i j 0 t × (v ≡ 0)
   from_var x (seq' (any' y) leaf') = (named_var (name_back x), refl)
@@ -360,8 +360,8 @@ module _ (s : List ℕ) (rank : Ranks) (limit : ℕ) (P : G.Phrases) (Q : Phrase
       (λ n d. either d (λ y. literal (G.integer (only y)))
       (λ n d. either d (λ y. literal (G.string (only y)))
       (λ n d. either d (λ y. literal (G.nil (only y)))
-      (λ n d. either d (λ y. literal (G.true-exp (only y)))
-      (λ n d. either d (λ y. literal (G.false-exp (only y)))
+      (λ n d. either d (λ y. literal (G.true_exp (only y)))
+      (λ n d. either d (λ y. literal (G.false_exp (only y)))
       (λ n d. either d (λ y. literal (G.varargs (only y)))
       (λ n d. either d (λ y d. let f = from_table d in (G.table f.0, f.1))
       (λ n d. either d (λ y. function_exp (only y)) (λ n d. plainly (from_suffixed d))))))))))
@@ -388,30 +388,30 @@ module _ (s : List ℕ) (rank : Ranks) (limit : ℕ) (P : G.Phrases) (Q : Phrase
     pub limited : rank.left (kind s k) ≤ limit
 
   module _ (ranked : (k : ℕ) → 0 < rank.left k → member k binop ≡ true) where
-    one-tail : {i j k n v c : ℕ} {t e : Forest} → G.Exp s rank P limit i j n t → limit < rank.left (kind s j) → Q.exps (rank.right (kind s (j + 1 - 1))) (j + 1) k e v
+    one_tail : {i j k n v c : ℕ} {t e : Forest} → G.Exp s rank P limit i j n t → limit < rank.left (kind s j) → Q.exps (rank.right (kind s (j + 1 - 1))) (j + 1) k e v
         → c ≡ code (kind s (j + 1 - 1)) + v → G.Exp s rank P limit i k (suc n) (join t (made s 19 c j e))
-    one-tail {i} {j} {k} {n} {v} {c} {t} {e} x y d q =
+    one_tail {i} {j} {k} {n} {v} {c} {t} {e} x y d q =
         let f = low.exp_from (subst (λ p. Q.exps (rank.right (kind s p)) (j + 1) k e v) (before j) d) in
         retree (λ u. G.Exp s rank P limit i k (suc n) (join t u)) (omega (arith, f.1, ap (λ p. code (kind s p)) (before j))) refl (G.binary x (ranked (kind s j) (omega arith)) y f.0)
 
     -- binop exp
     from_tail : {h : Held} {b : Term} {i j k n v : ℕ} {t u : Forest} → G.Exp s rank P limit i j n t → limit < rank.left (kind s j) → D h b (node 19 here unlined (any ⨾ coded ⨾ operand)) j k u v
         → G.Exp s rank P limit i k (suc n) (join t u) × (v ≡ 0)
-    from_tail x y (node' (seq' (any' z) (seq' coded' (operand' d)))) = (one-tail x y d (omega arith), refl)
+    from_tail x y (node' (seq' (any' z) (seq' coded' (operand' d)))) = (one_tail x y d (omega arith), refl)
 
-    from-tails : {h : Held} {i j k n m v : ℕ} {t u : Forest} → G.Exp s rank P limit i j n t → D h tail tail j k u v → m ≡ n + v → Chained i k m (join t u)
+    from_tails : {h : Held} {i j k n m v : ℕ} {t u : Forest} → G.Exp s rank P limit i j n t → D h tail tail j k u v → m ≡ n + v → Chained i k m (join t u)
     unfolding tail
-    from-tails {t = t} x (below' y empty') e =
+    from_tails {t = t} x (below' y empty') e =
         record { chained = revalue (G.Exp s rank P limit _ _) (omega arith) (subst (G.Exp s rank P limit _ _ _) (sym (join_none t)) x); limited = y }
-    from-tails {i = i} {k = k} {m = m} {t = t} x (above' y (seq' plus' (seq' {t = a} {u = r} c (again' q)))) e =
+    from_tails {i = i} {k = k} {m = m} {t = t} x (above' y (seq' plus' (seq' {t = a} {u = r} c (again' q)))) e =
         let f = from_tail x y c in
-        subst (Chained i k m) (join_assoc t a r) (from-tails f.0 q (omega (arith, f.1)))
+        subst (Chained i k m) (join_assoc t a r) (from_tails f.0 q (omega (arith, f.1)))
 
-    pub from-expression : {h : Held} {b : Term} {i j v : ℕ} {t : Forest} → D h b expression i j t v → G.Whole s rank P limit i j t × (v ≡ 0)
+    pub from_expression : {h : Held} {b : Term} {i j v : ℕ} {t : Forest} → D h b expression i j t v → G.Whole s rank P limit i j t × (v ≡ 0)
     unfolding expression tails
-    from-expression (node' (seq' x (iter' d))) =
+    from_expression (node' (seq' x (iter' d))) =
         let f = from_head x in
-        let g = from-tails f.0 d refl in
+        let g = from_tails f.0 d refl in
         (retree (G.Whole s rank P limit _ _) (omega (arith, f.1)) refl (G.whole g.chained g.limited), refl)
 
   -- {elseif exp then block}
@@ -453,12 +453,12 @@ module _ (s : List ℕ) (rank : Ranks) (limit : ℕ) (P : G.Phrases) (Q : Phrase
   choose : {h : Held} {c : Term} {i j k v w : ℕ} {e t : Forest} → kind s i ≡ If → P.exps 0 (i + 1) j e → Branches h c j k t v → w ≡ v → G.Stat s rank P i k (stated s 3 w i (join e t))
   choose {i = i} {v = v} {w = w} {e = e} x d (branches {n = f} {b = b} {t = t} y k l (seq' (that' a empty') c) q) r =
       last_word (λ k' u' w'. v ≡ 2 * f + (0 + w') → G.Stat s rank P i k' (stated s 3 w i (join e (join b (join t u'))))) c
-      (λ z q. retree (G.Stat s rank P _ _) (omega arith) (ap (λ u. join e (join b u)) (sym (join_none t))) (G.if-end x d y k l z)) q
+      (λ z q. retree (G.Stat s rank P _ _) (omega arith) (ap (λ u. join e (join b u)) (sym (join_none t))) (G.if_end x d y k l z)) q
   choose {i = i} {v = v} {w = w} {e = e} x d (branches {n = f} {b = b} {t = t} y k l (seq' {v = o'} {t = u} (this' a m) c) q) r =
       let (n, o, p) = plus_then (any_then m) in
       let g = from_block o in
       last_word (λ k' u' w'. v ≡ 2 * f + (o' + w') → G.Stat s rank P i k' (stated s 3 w i (join e (join b (join t (join u u')))))) c
-      (λ z q. retree (G.Stat s rank P _ _) (omega (arith, g.1)) (ap (λ u. join e (join b (join t u))) (sym (join_none u))) (G.if-else x d y k l (only a) g.0 z)) q
+      (λ z q. retree (G.Stat s rank P _ _) (omega (arith, g.1)) (ap (λ u. join e (join b (join t u))) (sym (join_none u))) (G.if_else x d y k l (only a) g.0 z)) q
 
   from_if : {h : Held} {b : Term} {i j v : ℕ} {t : Forest} → D h b ifstat i j t v → G.Stat s rank P i j t × (v ≡ 0)
   unfolding ifstat
@@ -471,7 +471,7 @@ module _ (s : List ℕ) (rank : Ranks) (limit : ℕ) (P : G.Phrases) (Q : Phrase
   from_do {i = i} x (node' (seq' (any' y) (seq' {v = v} {t = b} k c))) =
       let g = from_block k in
       last_word (λ j u w. G.Stat s rank P i j (tree 5 (0 + (v + w)) (line_of s opening i j) i (join b u) none) × (◌≡◌ {A = ℕ} 0 0)) c
-      (λ z. (retree (G.Stat s rank P _ _) (omega (arith, g.1)) (sym (join_none b)) (G.do-end x g.0 z), refl))
+      (λ z. (retree (G.Stat s rank P _ _) (omega (arith, g.1)) (sym (join_none b)) (G.do_end x g.0 z), refl))
 
   from_repeat : {h : Held} {b : Term} {i j v : ℕ} {t : Forest} → D h b repeatstat i j t v → G.Stat s rank P i j t × (v ≡ 0)
   unfolding repeatstat
@@ -482,10 +482,10 @@ module _ (s : List ℕ) (rank : Ranks) (limit : ℕ) (P : G.Phrases) (Q : Phrase
       (retree (G.Stat s rank P _ _) (omega (arith, f.1, g.1)) refl (G.repeat x g.0 y f.0), refl)
 
   last_name : {i j m : ℕ} {t : Forest} → Named i j t → Ends s (Comma ∷ []) j → m ≡ 1 → G.Attnamelist s rank P i j m (join t none)
-  last_name (as-name x) y e = revalue (G.Attnamelist s rank P _ _) (sym e) (G.att x y)
+  last_name (as_name x) y e = revalue (G.Attnamelist s rank P _ _) (sym e) (G.att x y)
 
   next_name : {i j k m n : ℕ} {t u : Forest} → Named i j t → Among s (Comma ∷ []) j → G.Attnamelist s rank P (j + 1) k n u → m ≡ 1 + n → G.Attnamelist s rank P i k m (join t u)
-  next_name (as-name x) y l e = revalue (G.Attnamelist s rank P _ _) (omega arith) (G.atts x (only y) l)
+  next_name (as_name x) y l e = revalue (G.Attnamelist s rank P _ _) (omega arith) (G.atts x (only y) l)
 
   -- Name {',' Name}
   from_names : {h : Held} {i j k v m : ℕ} {t u : Forest} → Named i j t → Many h check (Comma ∷ []) (any ⨾ nameleaf ⨾ plus 1) j k u v → m ≡ 1 + v → G.Attnamelist s rank P i k m (join t u)
@@ -503,7 +503,7 @@ module _ (s : List ℕ) (rank : Ranks) (limit : ℕ) (P : G.Phrases) (Q : Phrase
   -- a namelist is one that no ',' follows, or any
   loosely : {i j n : ℕ} {t : Forest} → G.Attnamelist s rank P i j n t → G.Namelist s rank P i j n t
   loosely (G.att x y) = G.one_name x
-  loosely (G.atts x y l) = G.more-names x y (loosely l)
+  loosely (G.atts x y l) = G.more_names x y (loosely l)
 
   during : {i j k v : ℕ} {e b : Forest} → kind s i ≡ While → P.exps 0 (i + 1) j e → Body Do j k b v → G.Stat s rank P i k (stated s 4 0 i (join e b))
   during x e (body y b z w) = G.while x e y b z
@@ -532,8 +532,8 @@ module _ (s : List ℕ) (rank : Ranks) (limit : ℕ) (P : G.Phrases) (Q : Phrase
 
   numeric : {i j k l v n : ℕ} {e f t : Forest} → Head i → P.exps 0 (i + 1 + 1 + 1) j e → kind s j ≡ Comma → P.exps 0 (j + 1) k f → Step k l t v → n ≡ payload s (i + 1) + v
       → G.Stat s rank P i l (stated s 6 n i (join e (join f t)))
-  numeric h e x f (no_step (body y b z w) o) q = retree (G.Stat s rank P _ _) (omega arith) refl (G.for-two h.0 h.1 h.2 e x f y b z)
-  numeric h e x f (step a g (body y b z w) o) q = retree (G.Stat s rank P _ _) (omega arith) refl (G.for-three h.0 h.1 h.2 e x f a g y b z)
+  numeric h e x f (no_step (body y b z w) o) q = retree (G.Stat s rank P _ _) (omega arith) refl (G.for_two h.0 h.1 h.2 e x f y b z)
+  numeric h e x f (step a g (body y b z w) o) q = retree (G.Stat s rank P _ _) (omega arith) refl (G.for_three h.0 h.1 h.2 e x f a g y b z)
 
   -- exp ',' exp [',' exp] do block end
   from_range : {h : Held} {c : Term} {i j v n : ℕ} {t : Forest} → Head i
@@ -548,7 +548,7 @@ module _ (s : List ℕ) (rank : Ranks) (limit : ℕ) (P : G.Phrases) (Q : Phrase
 
   generic : {i j k l m n v : ℕ} {t u b : Forest} → kind s i ≡ For → G.Attnamelist s rank P (i + 1) j n t → kind s j ≡ In → G.Explist s rank P (j + 1) k m u → Body Do k l b v
       → G.Stat s rank P i l (stated s 7 n i (join t (join u b)))
-  generic x l a m (body y b z w) = G.for-in x (loosely l) a m y b z
+  generic x l a m (body y b z w) = G.for_in x (loosely l) a m y b z
 
   from_in : {h : Held} {c : Term} {i j v : ℕ} {t : Forest} → kind s i ≡ For → Names h c (word In ⨾ explist 0 ⨾ word Do ⨾ block ⨾ word End) (i + 1) j t v → G.Stat s rank P i j (stated s 7 v i t)
   from_in x (names l (seq' (expect' w) (seq' d k)) q) =
@@ -570,13 +570,13 @@ module _ (s : List ℕ) (rank : Ranks) (limit : ℕ) (P : G.Phrases) (Q : Phrase
       let (y, r) = word_then (any_then d) in
       let (n, z, e, q) = name_then r in
       let f = from_funcbody e in
-      (retree (G.Stat s rank P _ _) (omega (arith, f.1)) refl (G.local-function x y z f.0), refl)
+      (retree (G.Stat s rank P _ _) (omega (arith, f.1)) refl (G.local_function x y z f.0), refl)
 
   locals : {h : Held} {b : Term} {i j v w : ℕ} {t : Forest} → kind s i ≡ Local → Names h b (opt check (Assign ∷ []) (any ⨾ explist 0)) (i + 1) j t v → w ≡ v → G.Stat s rank P i j (stated s 11 w i t)
   locals x (names {t = t} l (that' y empty') q) e = retree (G.Stat s rank P _ _) (omega arith) (sym (join_none t)) (G.local x l y)
   locals x (names l (this' y d) q) e =
       let g = from_explist (any_then d) in
-      retree (G.Stat s rank P _ _) (omega (arith, g.weight, mul-zero g.amount)) refl (G.local-is x l (only y) g.list)
+      retree (G.Stat s rank P _ _) (omega (arith, g.weight, mul-zero g.amount)) refl (G.local_is x l (only y) g.list)
 
   from_local : {h : Held} {b : Term} {i j v : ℕ} {t : Forest} → D h b localstat i j t v → G.Stat s rank P i j t × (v ≡ 0)
   unfolding localstat
@@ -604,7 +604,7 @@ module _ (s : List ℕ) (rank : Ranks) (limit : ℕ) (P : G.Phrases) (Q : Phrase
 
   -- {'.' Name} [':' Name]
   one_fieldname : {i j k v w : ℕ} {t u : Forest} → kind s i ≡ Dot → Named (i + 1) j t → G.Fields s rank P j k v u → w ≡ 2 + v → G.Fields s rank P i k w (join t u)
-  one_fieldname x (as-name y) l e = revalue (G.Fields s rank P _ _) (sym e) (G.field-name x y l)
+  one_fieldname x (as_name y) l e = revalue (G.Fields s rank P _ _) (sym e) (G.field_name x y l)
 
   from_fieldnames : {h : Held} {i j k v w m : ℕ} {t u : Forest} → Many h ahead (Dot ∷ []) (any ⨾ nameleaf ⨾ plus 2) i j t v → G.Fields s rank P j k w u → m ≡ v + w → G.Fields s rank P i k m (join t u)
   from_fieldnames (stop y) l e = revalue (G.Fields s rank P _ _) (omega arith) l
@@ -613,16 +613,16 @@ module _ (s : List ℕ) (rank : Ranks) (limit : ℕ) (P : G.Phrases) (Q : Phrase
       subst (G.Fields s rank P i k m) (sym (join_assoc a r u)) (one_fieldname (only y) f.0 (from_fieldnames d l refl) (omega (arith, f.1)))
 
   one_method : {i j v : ℕ} {t : Forest} → kind s i ≡ Colon → Named (i + 1) j t → v ≡ 1 → G.Fields s rank P i j v t
-  one_method x (as-name y) e = revalue (G.Fields s rank P _ _) (sym e) (G.method x y)
+  one_method x (as_name y) e = revalue (G.Fields s rank P _ _) (sym e) (G.method x y)
 
   from_method : {h : Held} {b : Term} {i j v : ℕ} {t : Forest} → D h b (opt ahead (Colon ∷ []) (any ⨾ nameleaf ⨾ plus 1)) i j t v → G.Fields s rank P i j v t
-  from_method (that' y empty') = G.no-method
+  from_method (that' y empty') = G.no_method
   from_method (this' y d) = let f = from_link d in one_method (only y) f.0 f.1
 
   -- {'.' Name} [':' Name] funcbody
   from_definition : {h : Held} {b : Term} {i j k v w : ℕ} {t u : Forest} → kind s i ≡ Function → Named (i + 1) j t
       → D h b (iter fieldname_turn ⨾ opt ahead (Colon ∷ []) (any ⨾ nameleaf ⨾ plus 1) ⨾ funcbody) j k u v → w ≡ v → G.Stat s rank P i k (stated s 9 w i (join t u))
-  from_definition {t = t} x (as-name y) (seq' {t = p} n (seq' {t = q} {u = d} m k)) e =
+  from_definition {t = t} x (as_name y) (seq' {t = p} n (seq' {t = q} {u = d} m k)) e =
       let f = from_funcbody k in
       retree (G.Stat s rank P _ _) (omega (arith, f.1)) (join_assoc t (join p q) d ∙ ap (join t) (join_assoc p q d)) (G.function x (G.funcname y (from_fieldnames (from_many n) (from_method m) refl)) f.0)
 

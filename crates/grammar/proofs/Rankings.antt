@@ -185,10 +185,10 @@ module _ (s : List ℕ) (ops : ℕ → Bool) (rank : Ranks) (same-ops : (k : ℕ
     abbrev Right : ℕ → ℕ → Bare
     Right q n = bare ((readers s rank g).exps (rank.right (kind s (q - 1))) q n)
 
-    tails-step : (l f p m : ℕ) → length s < p + suc f
+    tails_step : (l f p m : ℕ) → length s < p + suc f
         → ((q n : ℕ) → q ≤ length s → length s < q + f → Lower (bind (bare (turns s rank l (readers s rank g) f q n)) (Rest M)) (Rest M q n))
         → (c : Bool) → ltb l (rank.left (kind s p)) ≡ c → Lower (bind (bare (turns s rank l (readers s rank g) (suc f) p m)) (Rest M)) (Rest M p m)
-    tails-step l f p m e ih true h =
+    tails_step l f p m e ih true h =
         lower_trans (lower_eq (ap (λ (z : Bare). bind z (Rest M)) (turn_above s rank l (readers s rank g) f p m h)
         ∙ bind_assoc (bare (take s p (reached s m p 2))) (λ q n. bind (Right q n) (λ q n. bare (turns s rank l (readers s rank g) f q n))) (Rest M)))
         (lower_trans
@@ -202,17 +202,17 @@ module _ (s : List ℕ) (ops : ℕ → Bool) (rank : Ranks) (same-ops : (k : ℕ
         (lower_eq (bind_eq s q (bare ((readers s (flat ops) M).exps 1 q n)) (Rest M) (λ q n. bare (turns s (flat ops) 0 (readers s (flat ops) M) (length s) q n)) (ahead_exp s (flat ops) M 1 q n)
         (λ q' n' a' b'. rest_fuel M q' n' (omega arith) b')))))))
         (lower_eq (sym (turn_above s (flat ops) 0 (readers s (flat ops) M) (length s) p m (flat_above _ (is_op l (kind s p) h))))))
-    tails-step l f p m e ih false h = lower_eq (ap (λ (z : Bare). bind z (Rest M)) (turn_below s rank l (readers s rank g) f p m h) ∙ rest_mark M p m)
+    tails_step l f p m e ih false h = lower_eq (ap (λ (z : Bare). bind z (Rest M)) (turn_below s rank l (readers s rank g) f p m h) ∙ rest_mark M p m)
 
-    tails-lower : (l f p m : ℕ) → p ≤ length s → length s < p + f → Lower (bind (bare (turns s rank l (readers s rank g) f p m)) (Rest M)) (Rest M p m)
-    tails-lower l zero p m b e = absurd (omega arith)
-    tails-lower l (suc f) p m b e = tails-step l f p m e (λ q n b' e'. tails-lower l f q n b' e') (ltb l (rank.left (kind s p))) refl
+    tails_lower : (l f p m : ℕ) → p ≤ length s → length s < p + f → Lower (bind (bare (turns s rank l (readers s rank g) f p m)) (Rest M)) (Rest M p m)
+    tails_lower l zero p m b e = absurd (omega arith)
+    tails_lower l (suc f) p m b e = tails_step l f p m e (λ q n b' e'. tails_lower l f q n b' e') (ltb l (rank.left (kind s p))) refl
 
   -- under the limit 0 nothing of the chain is left
   module _ (g M : ℕ) where
-    spent-step : (f p m : ℕ) → ((q n : ℕ) → bind (bare (turns s rank 0 (readers s rank g) f q n)) (Rest M) ≡ bare (turns s rank 0 (readers s rank g) f q n))
+    spent_step : (f p m : ℕ) → ((q n : ℕ) → bind (bare (turns s rank 0 (readers s rank g) f q n)) (Rest M) ≡ bare (turns s rank 0 (readers s rank g) f q n))
         → (c : Bool) → ltb 0 (rank.left (kind s p)) ≡ c → bind (bare (turns s rank 0 (readers s rank g) (suc f) p m)) (Rest M) ≡ bare (turns s rank 0 (readers s rank g) (suc f) p m)
-    spent-step f p m ih true h =
+    spent_step f p m ih true h =
         let x = turn_above s rank 0 (readers s rank g) f p m h in
         ap (λ (z : Bare). bind z (Rest M)) x
         ∙ bind_assoc (bare (take s p (reached s m p 2))) (λ q n. bind (bare ((readers s rank g).exps (rank.right (kind s (q - 1))) q n)) (λ q n. bare (turns s rank 0 (readers s rank g) f q n))) (Rest M)
@@ -222,7 +222,7 @@ module _ (s : List ℕ) (ops : ℕ → Bool) (rank : Ranks) (same-ops : (k : ℕ
         (λ q n. bind_assoc (bare ((readers s rank g).exps (rank.right (kind s (q - 1))) q n)) (λ q n. bare (turns s rank 0 (readers s rank g) f q n)) (Rest M)
         ∙ bind_cong (bare ((readers s rank g).exps (rank.right (kind s (q - 1))) q n)) (λ q n. bind (bare (turns s rank 0 (readers s rank g) f q n)) (Rest M)) (λ q n. bare (turns s rank 0 (readers s rank g) f q n)) ih)
         ∙ sym x
-    spent-step f p m ih false h =
+    spent_step f p m ih false h =
         let x = turn_below s rank 0 (readers s rank g) f p m h in
         ap (λ (z : Bare). bind z (Rest M)) x
         ∙ turn_below s (flat ops) 0 (readers s (flat ops) M) (length s) p (reached s m p 2) (flat_below _ (sym (same-ops (kind s p)) ∙ h))
@@ -230,7 +230,7 @@ module _ (s : List ℕ) (ops : ℕ → Bool) (rank : Ranks) (same-ops : (k : ℕ
 
     spent : (f p m : ℕ) → bind (bare (turns s rank 0 (readers s rank g) f p m)) (Rest M) ≡ bare (turns s rank 0 (readers s rank g) f p m)
     spent zero p m = refl
-    spent (suc f) p m = spent-step f p m (spent f) (ltb 0 (rank.left (kind s p))) refl
+    spent (suc f) p m = spent_step f p m (spent f) (ltb 0 (rank.left (kind s p))) refl
 
   module _ (g M M' : ℕ) (chains : Chains g M M')
       (kin-exp : (p m : ℕ) → Under ((readers s rank g).exps 0 p m) ((readers s (flat ops) M').exps 0 p m)) (kin-stat : (p m : ℕ) → Under ((readers s rank g).stats p m) ((readers s (flat ops) M').stats p m))
@@ -241,24 +241,24 @@ module _ (s : List ℕ) (ops : ℕ → Bool) (rank : Ranks) (same-ops : (k : ℕ
     abbrev Reads : Term → Type 0
     Reads e = (m : ℕ) → K (read s rank l (readers s rank g) (hold 0 0 none) e A p m) (read s (flat ops) l' (readers s (flat ops) M') (hold 0 0 none) e B p m)
 
-    on-lower : (ks : List ℕ) (a c : Term) → Reads a → Reads c → Reads (on next ks a c)
+    on_lower : (ks : List ℕ) (a c : Term) → Reads a → Reads c → Reads (on next ks a c)
     unfolding read
-    on-lower ks a c x y m =
+    on_lower ks a c x y m =
         either2 K (eqb (kind s p) 59) (eqb (kind s p) 59) _ _ _ _ refl alike (either2 K (member (kind s p) ks) (member (kind s p) ks) _ _ _ _ refl (x (reached s m p 2)) (y (reached s m p 2)))
 
-    unary-lower : (w : ℕ) → Reads (node 18 here unlined (any ⨾ plus w ⨾ exp 12))
-    unary-lower w m =
+    unary_lower : (w : ℕ) → Reads (node 18 here unlined (any ⨾ plus w ⨾ exp 12))
+    unary_lower w m =
         lower_trans (lower_eq (ap (λ (z : Bare). bind z (Rest M)) (unary_is s rank l (readers s rank g) A w p m) ∙ bind_assoc (bare (take s p m)) (λ q n. bare ((readers s rank g).exps 12 q n)) (Rest M)))
         (lower_trans (bind_lower s p (bare (take s p m)) (λ q n. bind (bare ((readers s rank g).exps 12 q n)) (Rest M)) (λ q n. bind (bare ((readers s (flat ops) M').exps 12 q n)) (Rest M)) (take_ahead s p m) (λ q n a b. chains 12 12 q n (omega arith)))
         (lower_eq (sym (ap (λ (z : Bare). bind z (Rest M)) (unary_is s (flat ops) l' (readers s (flat ops) M') B w p m) ∙ bind_assoc (bare (take s p m)) (λ q n. bare ((readers s (flat ops) M').exps 12 q n)) (Rest M)))))
 
-    simple-lower : Reads simple
-    simple-lower m =
+    simple_lower : Reads simple
+    simple_lower m =
         lower_bind (Rest M) (lower_of (kindred Under Like under_kin s rank (flat ops) l l' (readers s rank g) (readers s (flat ops) M') kin-exp kin-stat 0 0 none none nones simple (inl simple_plain) A B (inl simple_closed) p m))
 
-    head-lower : Reads head
+    head_lower : Reads head
     unfolding head
-    head-lower = on-lower _ _ _ (unary-lower 0) (on-lower _ _ _ (unary-lower 1) (on-lower _ _ _ (unary-lower 2) (on-lower _ _ _ (unary-lower 3) simple-lower)))
+    head_lower = on_lower _ _ _ (unary_lower 0) (on_lower _ _ _ (unary_lower 1) (on_lower _ _ _ (unary_lower 2) (on_lower _ _ _ (unary_lower 3) simple_lower)))
 
   record Level (g : ℕ) : Type 0 where
     expressed : (M p m : ℕ) → g ≤ M → Under ((readers s rank g).exps 0 p m) ((readers s (flat ops) M).exps 0 p m)
@@ -269,13 +269,13 @@ module _ (s : List ℕ) (ops : ℕ → Bool) (rank : Ranks) (same-ops : (k : ℕ
   module _ (g M M' : ℕ) (h : Level g) (b : g ≤ M) (b' : g ≤ M') where
     begun : (l l' p m : ℕ) → Lower (bind (bare (heads s rank l g p m)) (Rest M)) (bind (bare (heads s (flat ops) l' M' p m)) (Rest M))
     begun l l' p m =
-        head-lower g M M' (h.chained M M' b b') (λ p m. h.expressed M' p m b') (λ p m. h.stated M' p m b') l l'
+        head_lower g M M' (h.chained M M' b b') (λ p m. h.expressed M' p m b') (λ p m. h.stated M' p m b') l l'
         (loop s (length s) (read s rank l (readers s rank g) (hold 0 0 none) expression)) (loop s (length s) (read s (flat ops) l' (readers s (flat ops) M') (hold 0 0 none) expression)) p m
 
     ended_by : (l l' p m : ℕ) → Lower (bind (bare (heads s rank l g p m)) (λ q n. bind (bare (tailed s rank l g q n)) (Rest M))) (bind (bare (heads s (flat ops) l' M' p m)) (Rest M))
     ended_by l l' p m =
         lower_trans (bind_lower s p (bare (heads s rank l g p m)) (λ q n. bind (bare (tailed s rank l g q n)) (Rest M)) (Rest M) (head_ahead s rank g l p m)
-        (λ q n a c. tails-lower g M (h.chained M M b b) l (suc (length s)) q n c (omega arith))) (begun l l' p m)
+        (λ q n a c. tails_lower g M (h.chained M M b b) l (suc (length s)) q n c (omega arith))) (begun l l' p m)
 
   chained_next : (g M M' : ℕ) → Level g → g ≤ M → g ≤ M' → Chains (suc g) M (suc M')
   chained_next g M M' h b b' l l' p m c =

@@ -9,8 +9,8 @@ use Rattle.grammar.specs.Grammar as G
 use Rattle.grammar.proofs.Derives as T
 use Rattle.grammar.proofs.Sets.{known}
 use Rattle.grammar.proofs.Lower.{Lower}
-use Rattle.grammar.proofs.Up.{to_block, to-expression, to-stat, exp-first', stat-first', name-exp', block_ends}
-use Rattle.grammar.proofs.Down.{from_block, from-expression, from_statement}
+use Rattle.grammar.proofs.Up.{to_block, to_expression, to_stat, exp_first', stat_first', name_exp', block_ends}
+use Rattle.grammar.proofs.Down.{from_block, from_expression, from_statement}
 
 module _ (s : List ℕ) (rank : Ranks) (ranked : Ranked rank) where
   pub lower : (g : ℕ) → Lower s (G.phrases s rank g) (T.phrases s rank g)
@@ -29,13 +29,13 @@ module _ (s : List ℕ) (rank : Ranks) (ranked : Ranked rank) where
       let Q = T.phrases s rank g in
       let low = lower g in
       record {
-        exp_to = λ {l} d. to-expression s rank l P Q low d;
-        exp_from = λ {l} d. from-expression s rank l P Q low ranked d;
-        stat_to = λ d e. to-stat s rank 0 P Q low d e;
+        exp_to = λ {l} d. to_expression s rank l P Q low d;
+        exp_from = λ {l} d. from_expression s rank l P Q low ranked d;
+        stat_to = λ d e. to_stat s rank 0 P Q low d e;
         stat_from = λ d. from_statement s rank 0 P Q low d;
-        exp_first = λ {l} d. exp-first' s rank l P Q low d;
-        stat_first = λ d. stat-first' s rank 0 P Q low d;
-        name_exp = λ d x y. name-exp' s rank 0 P Q low d x y;
+        exp_first = λ {l} d. exp_first' s rank l P Q low d;
+        stat_first = λ d. stat_first' s rank 0 P Q low d;
+        name_exp = λ d x y. name_exp' s rank 0 P Q low d x y;
       }
 
   abbrev pub to_terms : {g : ℕ} {t : Forest} → G.Chunk s rank g t → T.Chunk s rank g t

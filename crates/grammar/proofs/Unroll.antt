@@ -98,8 +98,8 @@ module _ (s : List ℕ) (rank : Ranks) (limit : ℕ) (P : Phrases) (R : Readers)
   same_again g again b A B wb we r p m l h = h p m (omega arith) l
 
   module _ (g : Held) (e : Term) (we : wellmade e ≡ true) (ge : guarded e ≡ true) where
-    loop-sound : (f : ℕ) → Sound (loop s f (read s rank limit R g e)) (Derives s rank limit P g e e)
-    loop-sound = sound_loop s rank limit P R sound-exp sound-stat g e (λ A r. sound s rank limit P R sound-exp sound-stat g e e A r)
+    loop_sound : (f : ℕ) → Sound (loop s f (read s rank limit R g e)) (Derives s rank limit P g e e)
+    loop_sound = sound_loop s rank limit P R sound-exp sound-stat g e (λ A r. sound s rank limit P R sound-exp sound-stat g e e A r)
 
     later : (p : ℕ) (A B : Reader) → ((q n : ℕ) → p < q → q ≤ length s → A q n ≡ B q n) → Agree s (guarded e) p A B
     later p A B h = rw ge (λ q n l b. h q n (omega arith) b)
@@ -108,12 +108,12 @@ module _ (s : List ℕ) (rank : Ranks) (limit : ℕ) (P : Phrases) (R : Readers)
     fuels zero f' p m b x x' = absurd (omega arith)
     fuels (suc f) zero p m b x x' = absurd (omega arith)
     fuels (suc f) (suc f') p m b x x' =
-        same_again g e e (loop s f (read s rank limit R g e)) (loop s f' (read s rank limit R g e)) we we (loop-sound f) p m b
+        same_again g e e (loop s f (read s rank limit R g e)) (loop s f' (read s rank limit R g e)) we we (loop_sound f) p m b
         (later p (loop s f (read s rank limit R g e)) (loop s f' (read s rank limit R g e)) (λ q n l c. fuels f f' q n c (omega arith) (omega arith)))
 
     -- the repetition is its body, in which `again` is the repetition
     pub unroll : (A B : Reader) (p m : ℕ) → p ≤ length s → read s rank limit R g (iter e) A p m ≡ read s rank limit R g e (read s rank limit R g (iter e) B) p m
     unfolding read
     unroll A B p m b =
-        same_again g e e (loop s (length s) (read s rank limit R g e)) (loop s (suc (length s)) (read s rank limit R g e)) we we (loop-sound (length s)) p m b
+        same_again g e e (loop s (length s) (read s rank limit R g e)) (loop s (suc (length s)) (read s rank limit R g e)) we we (loop_sound (length s)) p m b
         (later p (loop s (length s) (read s rank limit R g e)) (loop s (suc (length s)) (read s rank limit R g e)) (λ q n l c. fuels (length s) (suc (length s)) q n c (omega arith) (omega arith)))

@@ -74,7 +74,7 @@ module _ (s : List ℕ) (rank : Ranks) (P : Phrases) where
   mutual
     -- block ::= {stat} [retstat]; its line is that of the token after it
     pub data Block : ℕ → ℕ → Forest → Type 0 where
-      open-ended : {i j : ℕ} {t : Forest} → Stats i j t → Ends s (Return ∷ []) j → Block i j (tree 1 0 (line s j) i t none)
+      open_ended : {i j : ℕ} {t : Forest} → Stats i j t → Ends s (Return ∷ []) j → Block i j (tree 1 0 (line s j) i t none)
       returning : {i j k : ℕ} {t u : Forest} → Stats i j t → Retstat j k u → Block i k (tree 1 1 (line s k) i (join t u) none)
 
     -- {stat}
@@ -96,7 +96,7 @@ module _ (s : List ℕ) (rank : Ranks) (P : Phrases) where
       -- goto Name
       goto : {i : ℕ} → kind s i ≡ Goto → kind s (i + 1) ≡ Name → Stat i (i + 1 + 1) (stated s 14 (payload s (i + 1)) i none)
       -- do block end
-      do-end : {i j : ℕ} {b : Forest} → kind s i ≡ Do → Block (i + 1) j b → kind s j ≡ End → Stat i (j + 1) (stated s 5 0 i b)
+      do_end : {i j : ℕ} {b : Forest} → kind s i ≡ Do → Block (i + 1) j b → kind s j ≡ End → Stat i (j + 1) (stated s 5 0 i b)
       -- while exp do block end
       while : {i j k : ℕ} {e b : Forest} → kind s i ≡ While → P.exps 0 (i + 1) j e → kind s j ≡ Do → Block (j + 1) k b → kind s k ≡ End
           → Stat i (k + 1) (stated s 4 0 i (join e b))
@@ -104,33 +104,33 @@ module _ (s : List ℕ) (rank : Ranks) (P : Phrases) where
       repeat : {i j k : ℕ} {b e : Forest} → kind s i ≡ Repeat → Block (i + 1) j b → kind s j ≡ Until → P.exps 0 (j + 1) k e
           → Stat i k (stated s 8 0 i (join b e))
       -- if exp then block {elseif exp then block} end
-      if-end : {i j k l n : ℕ} {e b t : Forest} → kind s i ≡ If → P.exps 0 (i + 1) j e → kind s j ≡ Then → Block (j + 1) k b → Elseifs k l n t → kind s l ≡ End
+      if_end : {i j k l n : ℕ} {e b t : Forest} → kind s i ≡ If → P.exps 0 (i + 1) j e → kind s j ≡ Then → Block (j + 1) k b → Elseifs k l n t → kind s l ≡ End
           → Stat i (l + 1) (stated s 3 (2 * n) i (join e (join b t)))
       -- if exp then block {elseif exp then block} else block end
-      if-else : {i j k l m n : ℕ} {e b t c : Forest} → kind s i ≡ If → P.exps 0 (i + 1) j e → kind s j ≡ Then → Block (j + 1) k b → Elseifs k l n t
+      if_else : {i j k l m n : ℕ} {e b t c : Forest} → kind s i ≡ If → P.exps 0 (i + 1) j e → kind s j ≡ Then → Block (j + 1) k b → Elseifs k l n t
           → kind s l ≡ Else → Block (l + 1) m c → kind s m ≡ End
           → Stat i (m + 1) (stated s 3 (2 * n + 1) i (join e (join b (join t c))))
       -- for Name '=' exp ',' exp do block end
-      for-two : {i j k l : ℕ} {e f b : Forest} → kind s i ≡ For → kind s (i + 1) ≡ Name → kind s (i + 1 + 1) ≡ Assign → P.exps 0 (i + 1 + 1 + 1) j e
+      for_two : {i j k l : ℕ} {e f b : Forest} → kind s i ≡ For → kind s (i + 1) ≡ Name → kind s (i + 1 + 1) ≡ Assign → P.exps 0 (i + 1 + 1 + 1) j e
           → kind s j ≡ Comma → P.exps 0 (j + 1) k f → kind s k ≡ Do → Block (k + 1) l b → kind s l ≡ End
           → Stat i (l + 1) (stated s 6 (payload s (i + 1)) i (join e (join f b)))
       -- for Name '=' exp ',' exp ',' exp do block end
-      for-three : {i j k l m : ℕ} {e f g b : Forest} → kind s i ≡ For → kind s (i + 1) ≡ Name → kind s (i + 1 + 1) ≡ Assign → P.exps 0 (i + 1 + 1 + 1) j e
+      for_three : {i j k l m : ℕ} {e f g b : Forest} → kind s i ≡ For → kind s (i + 1) ≡ Name → kind s (i + 1 + 1) ≡ Assign → P.exps 0 (i + 1 + 1 + 1) j e
           → kind s j ≡ Comma → P.exps 0 (j + 1) k f → kind s k ≡ Comma → P.exps 0 (k + 1) l g → kind s l ≡ Do → Block (l + 1) m b → kind s m ≡ End
           → Stat i (m + 1) (stated s 6 (payload s (i + 1)) i (join e (join f (join g b))))
       -- for namelist in explist do block end
-      for-in : {i j k l n m : ℕ} {t u b : Forest} → kind s i ≡ For → Namelist (i + 1) j n t → kind s j ≡ In → Explist (j + 1) k m u → kind s k ≡ Do
+      for_in : {i j k l n m : ℕ} {t u b : Forest} → kind s i ≡ For → Namelist (i + 1) j n t → kind s j ≡ In → Explist (j + 1) k m u → kind s k ≡ Do
           → Block (k + 1) l b → kind s l ≡ End
           → Stat i (l + 1) (stated s 7 n i (join t (join u b)))
       -- function funcname funcbody
       function : {i j k v : ℕ} {t d : Forest} → kind s i ≡ Function → Funcname (i + 1) j v t → Funcbody j k d → Stat i k (stated s 9 v i (join t d))
       -- local function Name funcbody
-      local-function : {i j : ℕ} {d : Forest} → kind s i ≡ Local → kind s (i + 1) ≡ Function → kind s (i + 1 + 1) ≡ Name → Funcbody (i + 1 + 1 + 1) j d
+      local_function : {i j : ℕ} {d : Forest} → kind s i ≡ Local → kind s (i + 1) ≡ Function → kind s (i + 1 + 1) ≡ Name → Funcbody (i + 1 + 1 + 1) j d
           → Stat i j (stated s 10 (payload s (i + 1 + 1)) i d)
       -- local attnamelist
       local : {i j n : ℕ} {t : Forest} → kind s i ≡ Local → Attnamelist (i + 1) j n t → Ends s (Assign ∷ []) j → Stat i j (stated s 11 n i t)
       -- local attnamelist '=' explist
-      local-is : {i j k n m : ℕ} {t u : Forest} → kind s i ≡ Local → Attnamelist (i + 1) j n t → kind s j ≡ Assign → Explist (j + 1) k m u
+      local_is : {i j k n m : ℕ} {t u : Forest} → kind s i ≡ Local → Attnamelist (i + 1) j n t → kind s j ≡ Assign → Explist (j + 1) k m u
           → Stat i k (stated s 11 n i (join t u))
 
     -- {elseif exp then block}
@@ -147,7 +147,7 @@ module _ (s : List ℕ) (rank : Ranks) (P : Phrases) where
     -- retstat ::= return [explist] [';']
     pub data Retstat : ℕ → ℕ → Forest → Type 0 where
       return : {i j : ℕ} → kind s i ≡ Return → Ends s first_exp (i + 1) → Optional (i + 1) j → Retstat i j (stated s 2 0 i none)
-      return-exps : {i j k n : ℕ} {t : Forest} → kind s i ≡ Return → Explist (i + 1) j n t → Optional j k → Retstat i k (stated s 2 n i t)
+      return_exps : {i j k n : ℕ} {t : Forest} → kind s i ≡ Return → Explist (i + 1) j n t → Optional j k → Retstat i k (stated s 2 n i t)
 
     -- [';']
     pub data Optional : ℕ → ℕ → Type 0 where
@@ -165,9 +165,9 @@ module _ (s : List ℕ) (rank : Ranks) (P : Phrases) where
 
     -- {'.' Name} [':' Name]
     pub data Fields : ℕ → ℕ → ℕ → Forest → Type 0 where
-      no-method : {i : ℕ} → Fields i i 0 none
+      no_method : {i : ℕ} → Fields i i 0 none
       method : {i : ℕ} → kind s i ≡ Colon → kind s (i + 1) ≡ Name → Fields i (i + 1 + 1) 1 (name s (i + 1))
-      field-name : {i j v : ℕ} {t : Forest} → kind s i ≡ Dot → kind s (i + 1) ≡ Name → Fields (i + 1 + 1) j v t → Fields i j (2 + v) (join (name s (i + 1)) t)
+      field_name : {i j v : ℕ} {t : Forest} → kind s i ≡ Dot → kind s (i + 1) ≡ Name → Fields (i + 1 + 1) j v t → Fields i j (2 + v) (join (name s (i + 1)) t)
 
     -- varlist ::= var {',' var}
     pub data Varlist : ℕ → ℕ → ℕ → Forest → Type 0 where
@@ -178,7 +178,7 @@ module _ (s : List ℕ) (rank : Ranks) (P : Phrases) where
     -- Of a var, a prefixexp and a functioncall the suffixes are counted; the trees are those of its primary and its suffixes.
     pub data Var : ℕ → ℕ → ℕ → Forest → Type 0 where
       -- Name
-      var-name : {i : ℕ} → kind s i ≡ Name → Var i (i + 1) 0 (name s i)
+      var_name : {i : ℕ} → kind s i ≡ Name → Var i (i + 1) 0 (name s i)
       -- prefixexp '[' exp ']'
       index : {i j k n : ℕ} {t e : Forest} → Prefixexp i j n t → kind s j ≡ LeftBracket → P.exps 0 (j + 1) k e → kind s k ≡ RightBracket
           → Var i (k + 1) (suc n) (join t (made s 33 0 j e))
@@ -188,20 +188,20 @@ module _ (s : List ℕ) (rank : Ranks) (P : Phrases) where
     -- namelist ::= Name {',' Name}
     pub data Namelist : ℕ → ℕ → ℕ → Forest → Type 0 where
       one_name : {i : ℕ} → kind s i ≡ Name → Namelist i (i + 1) 1 (name s i)
-      more-names : {i j n : ℕ} {t : Forest} → kind s i ≡ Name → kind s (i + 1) ≡ Comma → Namelist (i + 1 + 1) j n t → Namelist i j (suc n) (join (name s i) t)
+      more_names : {i j n : ℕ} {t : Forest} → kind s i ≡ Name → kind s (i + 1) ≡ Comma → Namelist (i + 1 + 1) j n t → Namelist i j (suc n) (join (name s i) t)
 
     -- explist ::= exp {',' exp}
     pub data Explist : ℕ → ℕ → ℕ → Forest → Type 0 where
-      one-exp : {i j : ℕ} {e : Forest} → P.exps 0 i j e → Ends s (Comma ∷ []) j → Explist i j 1 e
-      more-exps : {i j k n : ℕ} {e t : Forest} → P.exps 0 i j e → kind s j ≡ Comma → Explist (j + 1) k n t → Explist i k (suc n) (join e t)
+      one_exp : {i j : ℕ} {e : Forest} → P.exps 0 i j e → Ends s (Comma ∷ []) j → Explist i j 1 e
+      more_exps : {i j k n : ℕ} {e t : Forest} → P.exps 0 i j e → kind s j ≡ Comma → Explist (j + 1) k n t → Explist i k (suc n) (join e t)
 
     -- exp ::=
     -- Of an exp the operators of its own chain are counted; the trees are those of its first operand and its tails.
     pub data Exp : (limit : ℕ) → ℕ → ℕ → ℕ → Forest → Type 0 where
       -- nil | false | true
       nil : {limit i : ℕ} → kind s i ≡ Nil → Exp limit i (i + 1) 0 (made s 23 (payload s i) i none)
-      false-exp : {limit i : ℕ} → kind s i ≡ False → Exp limit i (i + 1) 0 (made s 25 (payload s i) i none)
-      true-exp : {limit i : ℕ} → kind s i ≡ True → Exp limit i (i + 1) 0 (made s 24 (payload s i) i none)
+      false_exp : {limit i : ℕ} → kind s i ≡ False → Exp limit i (i + 1) 0 (made s 25 (payload s i) i none)
+      true_exp : {limit i : ℕ} → kind s i ≡ True → Exp limit i (i + 1) 0 (made s 24 (payload s i) i none)
       -- Numeral
       integer : {limit i : ℕ} → kind s i ≡ Integer → Exp limit i (i + 1) 0 (made s 20 (payload s i) i none)
       float : {limit i : ℕ} → kind s i ≡ Float → Exp limit i (i + 1) 0 (made s 21 (payload s i) i none)
@@ -229,14 +229,14 @@ module _ (s : List ℕ) (rank : Ranks) (P : Phrases) where
 
     -- functioncall ::= prefixexp args | prefixexp ':' Name args
     pub data Functioncall : ℕ → ℕ → ℕ → Forest → Type 0 where
-      plain-call : {i j k n m : ℕ} {t u : Forest} → Prefixexp i j n t → Args j k m u → Functioncall i k (suc n) (join t (made s 34 m j u))
-      method-call : {i j k n m : ℕ} {t u : Forest} → Prefixexp i j n t → kind s j ≡ Colon → kind s (j + 1) ≡ Name → Args (j + 1 + 1) k m u
+      plain_call : {i j k n m : ℕ} {t u : Forest} → Prefixexp i j n t → Args j k m u → Functioncall i k (suc n) (join t (made s 34 m j u))
+      method_call : {i j k n m : ℕ} {t u : Forest} → Prefixexp i j n t → kind s j ≡ Colon → kind s (j + 1) ≡ Name → Args (j + 1 + 1) k m u
           → Functioncall i k (suc n) (join t (made s 35 (payload s (j + 1)) j u))
 
     -- args ::= '(' [explist] ')' | tableconstructor | LiteralString
     -- A lone table or string is an expression's record all the same; it takes no level.
     pub data Args : ℕ → ℕ → ℕ → Forest → Type 0 where
-      no-args : {i : ℕ} → kind s i ≡ LeftParen → kind s (i + 1) ≡ RightParen → Args i (i + 1 + 1) 0 none
+      no_args : {i : ℕ} → kind s i ≡ LeftParen → kind s (i + 1) ≡ RightParen → Args i (i + 1 + 1) 0 none
       list_args : {i j n : ℕ} {t : Forest} → kind s i ≡ LeftParen → Explist (i + 1) j n t → kind s j ≡ RightParen → Args i (j + 1) n t
       table_arg : {i j : ℕ} {t : Forest} → Tableconstructor i j t → Args i j 1 (made s 17 0 i t)
       string_arg : {i : ℕ} → kind s i ≡ String → Args i (i + 1) 1 (made s 17 0 i (made s 22 (payload s i) i none))
@@ -247,14 +247,14 @@ module _ (s : List ℕ) (rank : Ranks) (P : Phrases) where
 
     -- funcbody ::= '(' [parlist] ')' block end
     pub data Funcbody : ℕ → ℕ → Forest → Type 0 where
-      no-pars : {i j : ℕ} {b : Forest} → kind s i ≡ LeftParen → kind s (i + 1) ≡ RightParen → Block (i + 1 + 1) j b → kind s j ≡ End → Funcbody i (j + 1) (made s 28 0 i b)
+      no_pars : {i j : ℕ} {b : Forest} → kind s i ≡ LeftParen → kind s (i + 1) ≡ RightParen → Block (i + 1 + 1) j b → kind s j ≡ End → Funcbody i (j + 1) (made s 28 0 i b)
       pars : {i j k v : ℕ} {t b : Forest} → kind s i ≡ LeftParen → Parlist (i + 1) j v t → kind s j ≡ RightParen → Block (j + 1) k b → kind s k ≡ End
           → Funcbody i (k + 1) (made s 28 v i (join t b))
 
     -- parlist ::= namelist [',' '...'] | '...'; its value is 2 x parameters + varargs
     pub data Parlist : ℕ → ℕ → ℕ → Forest → Type 0 where
       names : {i j n : ℕ} {t : Forest} → Namelist i j n t → Parlist i j (2 * n) t
-      names-dots : {i j n : ℕ} {t : Forest} → Namelist i j n t → kind s j ≡ Comma → kind s (j + 1) ≡ Dots → Parlist i (j + 1 + 1) (2 * n + 1) t
+      names_dots : {i j n : ℕ} {t : Forest} → Namelist i j n t → kind s j ≡ Comma → kind s (j + 1) ≡ Dots → Parlist i (j + 1 + 1) (2 * n + 1) t
       dots : {i : ℕ} → kind s i ≡ Dots → Parlist i (i + 1) 1 none
 
     -- tableconstructor ::= '{' [fieldlist] '}'
@@ -264,9 +264,9 @@ module _ (s : List ℕ) (rank : Ranks) (P : Phrases) where
 
     -- fieldlist ::= field {fieldsep field} [fieldsep]
     pub data Fieldlist : ℕ → ℕ → ℕ → Forest → Type 0 where
-      last-field : {i j : ℕ} {t : Forest} → Field i j t → Fieldlist i j 1 t
-      last-field-sep : {i j : ℕ} {t : Forest} → Field i j t → Among s fieldsep j → Fieldlist i (j + 1) 1 t
-      more-fields : {i j k n : ℕ} {t u : Forest} → Field i j t → Among s fieldsep j → Fieldlist (j + 1) k n u → Fieldlist i k (suc n) (join t u)
+      last_field : {i j : ℕ} {t : Forest} → Field i j t → Fieldlist i j 1 t
+      last_field_sep : {i j : ℕ} {t : Forest} → Field i j t → Among s fieldsep j → Fieldlist i (j + 1) 1 t
+      more_fields : {i j k n : ℕ} {t u : Forest} → Field i j t → Among s fieldsep j → Fieldlist (j + 1) k n u → Fieldlist i k (suc n) (join t u)
 
     -- field ::= '[' exp ']' '=' exp | Name '=' exp | exp
     pub data Field : ℕ → ℕ → Forest → Type 0 where

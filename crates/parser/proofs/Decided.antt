@@ -55,23 +55,23 @@ agree p q = (p.0 ∙ sym q.0, p.1 ∙ sym q.1)
 module _ (s : List ℕ) (r : Ranking) (n : List ℕ) where
   -- no second answer would do
   pub decided : {n' n'' : List ℕ} {a b : Answer} → Answered s r n n' a → Answered s r n n'' b → (a ≡ b) × (n' ≡ n'')
-  decided {n'} {n''} {a} {b} x y = by-case (the_case s r 199 n)
+  decided {n'} {n''} {a} {b} x y = by_case (the_case s r 199 n)
     where
-      by-case : Case s r 199 n → (a ≡ b) × (n' ≡ n'')
-      by-case (bad {p} m) = agree (x.malformed p m) (y.malformed p m)
-      by-case (roomed {t} f d l) = agree (x.accepts t f d l) (y.accepts t f d l)
-      by-case (cramped {t} f d l) = agree (x.short t f d l) (y.short t f d l)
-      by-case (underived {e} f none c) = agree (x.refuses e f none c) (y.refuses e f none c)
+      by_case : Case s r 199 n → (a ≡ b) × (n' ≡ n'')
+      by_case (bad {p} m) = agree (x.malformed p m) (y.malformed p m)
+      by_case (roomed {t} f d l) = agree (x.accepts t f d l) (y.accepts t f d l)
+      by_case (cramped {t} f d l) = agree (x.short t f d l) (y.short t f d l)
+      by_case (underived {e} f none c) = agree (x.refuses e f none c) (y.refuses e f none c)
 
   -- a caller who lends four records a token and one more never sees 7
   pub roomy : {n' : List ℕ} {a : Answer} → (4 * (records s - 1) + 1) * 4 ≤ length n → Answered s r n n' a → a.number ≡ 7 → ⊥
-  roomy {n'} {a} room x seven = by-case (the_case s r 199 n)
+  roomy {n'} {a} room x seven = by_case (the_case s r 199 n)
     where
       told : {b : Answer} → a ≡ b → 7 ≡ b.number
       told e = sym seven ∙ ap (λ (z : Answer). z.number) e
 
-      by-case : Case s r 199 n → ⊥
-      by-case (bad {p} m) = omega (arith, told (x.malformed p m).0)
-      by-case (roomed {t} f d l) = omega (arith, told (x.accepts t f d l).0)
-      by-case (cramped f d l) = omega (arith, tree_fits s r 199 f d)
-      by-case (underived {e} f none c) = omega (arith, told (x.refuses e f none c).0, numbers s r 199 f c)
+      by_case : Case s r 199 n → ⊥
+      by_case (bad {p} m) = omega (arith, told (x.malformed p m).0)
+      by_case (roomed {t} f d l) = omega (arith, told (x.accepts t f d l).0)
+      by_case (cramped f d l) = omega (arith, tree_fits s r 199 f d)
+      by_case (underived {e} f none c) = omega (arith, told (x.refuses e f none c).0, numbers s r 199 f c)

@@ -25,7 +25,7 @@ use Rattle.grammar.specs.Reading.{Out, Reader, Readers, Held, read}
 use Rattle.grammar.specs.Productions.{simple, head}
 use Rattle.grammar.proofs.Tests.{yes_case, no_case}
 use Rattle.parser.proofs.Steps.{saw, ran_out}
-use Rattle.parser.proofs.Looks.{Row, pick, by_kind, by-others}
+use Rattle.parser.proofs.Looks.{Row, pick, by_kind, by_others}
 
 -- a lookup does not say two things
 differ : {A : Type 0} (x : Operator) (c : ℕ) → x ≡ Found c → x ≡ Nothing → A
@@ -86,7 +86,7 @@ module _ (s : List ℕ) (rank : Ranks) (limit : ℕ) (R : Readers) (h : Held) (A
 
   pub head_out : unary_operator t.kind ≡ Nothing → From c head ≡ From d simple
   unfolding head
-  head_out e = by-others s rank limit R h A c (13, Unary 0) Rows simple x (no 13 0 not) (no 22 1 minus) (no 30 2 bits) (no 29 3 len)
+  head_out e = by_others s rank limit R h A c (13, Unary 0) Rows simple x (no 13 0 not) (no 22 1 minus) (no 30 2 bits) (no 29 3 len)
     where
       no : (k code : ℕ) → unary_operator k ≡ Found code → t.kind ≡ k → ⊥
       no k code f q = differ _ _ (one_of _ _ _ q f) e

@@ -293,8 +293,8 @@ pub over_expression : {s : List ℕ} {low used more : ℕ} {n n₁ n₂ : List �
     → Fine s b.note low (used + 1) more n n₁ o e u v → n₂ ≡ sets n₁ (used * 4) (words 17 v 0 (u - used)) → Fined (chained x s) s c.note low used more n n₂ (wrap s 17 unlined i o) d u 0
 over_expression {s} {low} {used} {more} {n} {n₁} {n₂} {o} {e} {u} {v} x c b d i p r f w =
     laid_over 17 unlined i 0 d (ap (λ (z : Cursor). z.place) r ∙ backed_place x c e) (ap (λ (z : Cursor). z.mark) r ∙ backed_mark x c e) f w refl
-    (ap (λ (z : Cursor). z.note) r ∙ backed-note x f.trees (f.noted ∙ ap (λ (z : Cursor). noted s f.trees z.note) p))
+    (ap (λ (z : Cursor). z.note) r ∙ backed_note x f.trees (f.noted ∙ ap (λ (z : Cursor). noted s f.trees z.note) p))
   where
-    backed-note : (x : Bool) (k : Forest) → e.note ≡ noted s k (begins x c).note → (backs x c e).note ≡ chained x s (tree 17 v 0 i k none) c.note
-    backed-note true k y = ap (resumed c.note) y
-    backed-note false k y = y
+    backed_note : (x : Bool) (k : Forest) → e.note ≡ noted s k (begins x c).note → (backs x c e).note ≡ chained x s (tree 17 v 0 i k none) c.note
+    backed_note true k y = ap (resumed c.note) y
+    backed_note false k y = y

@@ -33,9 +33,9 @@ use Rattle.grammar.proofs.Among.{Unlike, unlike, other}
 use Rattle.parser.specs.Contract.{Fine, Meets, Sums, says, stepped, counting}
 use Rattle.parser.specs.declared.Step.{Step}
 use Rattle.parser.specs.declared.Sum.{Sum}
-use Rattle.parser.proofs.Steps.{got, saw, ran_out, got_line, get_place, took_next, next-fail, next-is}
+use Rattle.parser.proofs.Steps.{got, saw, ran_out, got_line, get_place, took_next, next_fail, next_is}
 use Rattle.parser.proofs.Kit.{alter, lower, revalue, Going, fails, ends}
-use Rattle.parser.proofs.Tokens.{word_fail, word-fine}
+use Rattle.parser.proofs.Tokens.{word_fail, word_fine}
 
 module _ (s : List ℕ) where
   twice : (c : Cursor) (n : ℕ) → read_ahead s (read_ahead s c n) n ≡ read_ahead s c n
@@ -62,32 +62,32 @@ module _ (s : List ℕ) where
 
   -- a production that takes the next token, or chooses by it, reads the same after a look at it
   module _ (rank : Ranks) (limit : ℕ) (R : Readers) (h : Held) (A : Reader) (p m : ℕ) where
-    any-again : read s rank limit R h any A p (reached s m p 2) ≡ read s rank limit R h any A p m
+    any_again : read s rank limit R h any A p (reached s m p 2) ≡ read s rank limit R h any A p m
     unfolding read
-    any-again = ap (λ (z : ℕ). elim (eqb (kind s p) 59) [ true ↦ ended s z 0 | false ↦ fine (p + 1) z none 0 ]) (reached_twice s m p 2)
+    any_again = ap (λ (z : ℕ). elim (eqb (kind s p) 59) [ true ↦ ended s z 0 | false ↦ fine (p + 1) z none 0 ]) (reached_twice s m p 2)
 
-    pub begins-again : (e : Term) → read s rank limit R h (any ⨾ e) A p (reached s m p 2) ≡ read s rank limit R h (any ⨾ e) A p m
+    pub begins_again : (e : Term) → read s rank limit R h (any ⨾ e) A p (reached s m p 2) ≡ read s rank limit R h (any ⨾ e) A p m
     unfolding read
-    begins-again e = ap (λ (z : Out). then z (read s rank limit R h e A)) any-again
+    begins_again e = ap (λ (z : Out). then z (read s rank limit R h e A)) any_again
 
-    pub on-again : (ks : List ℕ) (a b : Term) → read s rank limit R h (on next ks a b) A p (reached s m p 2) ≡ read s rank limit R h (on next ks a b) A p m
+    pub on_again : (ks : List ℕ) (a b : Term) → read s rank limit R h (on next ks a b) A p (reached s m p 2) ≡ read s rank limit R h (on next ks a b) A p m
     unfolding read
-    on-again ks a b =
+    on_again ks a b =
         ap (λ (z : ℕ). elim (eqb (kind s p) 59) [ true ↦ ended s z 0 | false ↦ elim (member (kind s p) ks) [ true ↦ read s rank limit R h a A p z | false ↦ read s rank limit R h b A p z ] ]) (reached_twice s m p 2)
 
   -- taking is getting, and then taking
   module _ (c : Cursor) where
-    pub take-fails : {e : Refusal} → take_next s c ≡ Fail e → get_next s c ≡ Fail e
-    take-fails {e} x =
+    pub take_fails : {e : Refusal} → take_next s c ≡ Fail e → get_next s c ≡ Fail e
+    take_fails {e} x =
         by_cases (ℕ_discrete (kind s c.place) 59)
         (λ q. get_end s c q ∙ sym (take_end s c q) ∙ x)
         (λ n. let z : ◌≡◌ {A = ℕ} 0 1 = cc (take_token s c n, x) in absurd (omega arith))
 
-    pub take-gets : {t : Token} {d : Cursor} → take_next s c ≡ Took t d → get_next s c ≡ Took t (read_ahead s c 1)
-    take-gets {t} x = let a = took_next s c x in get_token s c a.real ∙ ap (λ (z : Token). Took z (read_ahead s c 1)) (sym a.token)
+    pub take_gets : {t : Token} {d : Cursor} → take_next s c ≡ Took t d → get_next s c ≡ Took t (read_ahead s c 1)
+    take_gets {t} x = let a = took_next s c x in get_token s c a.real ∙ ap (λ (z : Token). Took z (read_ahead s c 1)) (sym a.token)
 
-    pub take-takes : {t : Token} {d : Cursor} → take_next s c ≡ Took t d → take_next s (read_ahead s c 1) ≡ Took t d
-    take-takes {t} {d} x =
+    pub take_takes : {t : Token} {d : Cursor} → take_next s c ≡ Took t d → take_next s (read_ahead s c 1) ≡ Took t d
+    take_takes {t} {d} x =
         let a = took_next s c x in
         take_token s (read_ahead s c 1) a.real ∙ ap (λ (z : Cursor). Took (token_at s c.place) (passed z)) (twice c 1) ∙ sym (take_token s c a.real) ∙ x
 
@@ -131,21 +131,21 @@ module _ (s : List ℕ) (rank : Ranks) (limit : ℕ) (R : Readers) (h : Held) (A
   picked d false a b b' e = e
 
   chosen : (c : Cursor) {t : Token} {d : Cursor} → get_next s c ≡ Took t d → (r : Row) (rs : List Row) (e : Term) → From c (choice (r ∷ rs) e) ≡ From d (pick (r ∷ rs) e t.kind)
-  chosen c {t} {d} x r [] e = next-is s rank limit R h A c (r.0 ∷ []) r.1 e x ∙ picked d (member t.kind (r.0 ∷ [])) r.1 e e refl
+  chosen c {t} {d} x r [] e = next_is s rank limit R h A c (r.0 ∷ []) r.1 e x ∙ picked d (member t.kind (r.0 ∷ [])) r.1 e e refl
   chosen c {t} {d} x r (r' ∷ rs) e =
-      next-is s rank limit R h A c (r.0 ∷ []) r.1 (choice (r' ∷ rs) e) x
+      next_is s rank limit R h A c (r.0 ∷ []) r.1 (choice (r' ∷ rs) e) x
       ∙ picked d (member t.kind (r.0 ∷ [])) r.1 (choice (r' ∷ rs) e) (pick (r' ∷ rs) e t.kind) (chosen d (got_again s c x) r' rs e)
 
   -- there is no token; it is of a kind that has a production of its own; it is of none of them
   pub by_none : (c : Cursor) (r : Row) (rs : List Row) (e : Term) {f : Refusal} → get_next s c ≡ Fail f → From c (choice (r ∷ rs) e) ≡ fail f
-  by_none c r rs e x = next-fail s rank limit R h A c (r.0 ∷ []) r.1 (choice rs e) x
+  by_none c r rs e x = next_fail s rank limit R h A c (r.0 ∷ []) r.1 (choice rs e) x
 
   module _ (c : Cursor) (r : Row) (rs : List Row) (e : Term) {t : Token} {d : Cursor} (x : get_next s c ≡ Took t d) where
     pub by_kind : {k : ℕ} → t.kind ≡ k → From c (choice (r ∷ rs) e) ≡ From d (pick (r ∷ rs) e k)
     by_kind q = chosen c x r rs e ∙ ap (λ (z : ℕ). From d (pick (r ∷ rs) e z)) q
 
-    pub by-others : Unlike t.kind (kinds (r ∷ rs)) (From c (choice (r ∷ rs) e) ≡ From d e)
-    by-others = unlike t.kind (kinds (r ∷ rs)) (λ q. chosen c x r rs e ∙ ap (From d) q) (pick_other (r ∷ rs) e t.kind)
+    pub by_others : Unlike t.kind (kinds (r ∷ rs)) (From c (choice (r ∷ rs) e) ≡ From d e)
+    by_others = unlike t.kind (kinds (r ∷ rs)) (λ q. chosen c x r rs e ∙ ap (From d) q) (pick_other (r ∷ rs) e t.kind)
 
 -- the look that closes a block stays where it is
 abbrev placed : Out → ℕ
@@ -165,7 +165,7 @@ module _ (s : List ℕ) (rank : Ranks) (limit : ℕ) (R : Readers) (h : Held) (A
   expect_meets n used more l r e = subst (Meets s c.note (c.place + 1) used more n n Word) (sym e) (go (expect_next s c k) refl)
     where
       go : (x : Next) → expect_next s c k ≡ x → Meets s c.note (c.place + 1) used more n n Word (stepped used x)
-      go (Took t d) q = word-fine s rank limit R h A c n used more formed l k real small q
+      go (Took t d) q = word_fine s rank limit R h A c n used more formed l k real small q
       go (Fail z) q = word_fail s rank limit R h A c k real small q
 
   pub counted_sums : {q : Note} {low used more : ℕ} {n n' : List ℕ} {o : Out} {rest : Reader} {u v : ℕ} (start low' more' : ℕ) → Going s q low used more n n' o rest c u v → rest c.place c.mark ≡ Word
@@ -174,7 +174,7 @@ module _ (s : List ℕ) (rank : Ranks) (limit : ℕ) (R : Readers) (h : Held) (A
     where
       go : (x : Next) → expect_next s c k ≡ x → Sums s q start low' used more' n n' o (counting u v x)
       go (Took t d) y =
-          let w = word-fine s rank limit R h A c n' u more' formed m k real small y in
+          let w = word_fine s rank limit R h A c n' u more' formed m k real small y in
           (lower low' (revalue (omega arith) (ends g (alter e w) (omega arith))) (omega (arith, w.later)), omega (arith, w.later))
       go (Fail z) y = fails g (e ∙ word_fail s rank limit R h A c k real small y)
 

@@ -176,23 +176,23 @@ module _ (s : List ℕ) (rank : Ranks) (limit : ℕ) (R : Readers) (h : Held) (A
     seen {d = d} g = ap (λ (z : Cursor). Pick (member (kind s c.place) ks) z a b) (sym g.cursor) ∙ ap (λ (z : Token). Pick (member z.kind ks) d a b) (sym g.token)
 
     -- the next token, which must be there
-    pub next-fail : {e : Refusal} → get_next s c ≡ Fail e → From c (on next ks a b) ≡ fail e
+    pub next_fail : {e : Refusal} → get_next s c ≡ Fail e → From c (on next ks a b) ≡ fail e
     unfolding read
-    next-fail {e} x =
+    next_fail {e} x =
         by_cases (ℕ_discrete (kind s c.place) 59)
         (λ q. let g = get_end s c q in yes_case _ _ _ (eq-eqb _ _ q) ∙ ap taken (sym g ∙ x))
         (λ n. let z : ◌≡◌ {A = ℕ} 0 1 = cc (get_token s c n, x) in absurd (omega arith))
 
     module _ {t : Token} {d : Cursor} (x : get_next s c ≡ Took t d) where
-      pub next-is : From c (on next ks a b) ≡ Pick (member t.kind ks) d a b
+      pub next_is : From c (on next ks a b) ≡ Pick (member t.kind ks) d a b
       unfolding read
-      next-is = let g = got s c x in no_case _ _ _ (ne_eqb _ _ g.real) ∙ seen g
+      next_is = let g = got s c x in no_case _ _ _ (ne_eqb _ _ g.real) ∙ seen g
 
-      pub next-in : member t.kind ks ≡ true → From c (on next ks a b) ≡ From d a
-      next-in y = next-is ∙ yes_case _ _ _ y
+      pub next_in : member t.kind ks ≡ true → From c (on next ks a b) ≡ From d a
+      next_in y = next_is ∙ yes_case _ _ _ y
 
-      pub next-out : member t.kind ks ≡ false → From c (on next ks a b) ≡ From d b
-      next-out y = next-is ∙ no_case _ _ _ y
+      pub next_out : member t.kind ks ≡ false → From c (on next ks a b) ≡ From d b
+      next_out y = next_is ∙ no_case _ _ _ y
 
     -- the next token, or the end
     module _ {t : Token} {d : Cursor} (x : look_ahead s c 0 ≡ Seen t d) where
@@ -203,8 +203,8 @@ module _ (s : List ℕ) (rank : Ranks) (limit : ℕ) (R : Readers) (h : Held) (A
       pub look_in : member t.kind ks ≡ true → From c (on ahead ks a b) ≡ From d a
       look_in y = look_is ∙ yes_case _ _ _ y
 
-      pub look-out : member t.kind ks ≡ false → From c (on ahead ks a b) ≡ From d b
-      look-out y = look_is ∙ no_case _ _ _ y
+      pub look_out : member t.kind ks ≡ false → From c (on ahead ks a b) ≡ From d b
+      look_out y = look_is ∙ no_case _ _ _ y
 
     module _ {d : Cursor} (x : look_ahead s c 0 ≡ End d) where
       end_is : From c (on ahead ks a b) ≡ Pick (member 59 ks) d a b
@@ -214,8 +214,8 @@ module _ (s : List ℕ) (rank : Ranks) (limit : ℕ) (R : Readers) (h : Held) (A
       pub end_in : member 59 ks ≡ true → From c (on ahead ks a b) ≡ From d a
       end_in y = end_is ∙ yes_case _ _ _ y
 
-      pub end-out : member 59 ks ≡ false → From c (on ahead ks a b) ≡ From d b
-      end-out y = end_is ∙ no_case _ _ _ y
+      pub end_out : member 59 ks ≡ false → From c (on ahead ks a b) ≡ From d b
+      end_out y = end_is ∙ no_case _ _ _ y
 
   -- whether a token of one kind comes next, or after the next
   module _ {x : Check} (k : ℕ) (a b : Term) (real : k ≡ 59 → ⊥) where
@@ -224,23 +224,23 @@ module _ (s : List ℕ) (rank : Ranks) (limit : ℕ) (R : Readers) (h : Held) (A
         ap (λ (z : Bool). Pick z (read_ahead s c n) a b) (or_false _ ∙ sym (ap (λ (z : ℕ). eqb (kind s z) k) q)) ∙ sym (ap (λ (z : Check). Pick z.found z.cursor a b) (e ∙ check_kind s c n k real))
 
     module _ (e : x ≡ check_ahead s c 0 k) where
-      check-is : From c (on check (k ∷ []) a b) ≡ Pick x.found x.cursor a b
+      check_is : From c (on check (k ∷ []) a b) ≡ Pick x.found x.cursor a b
       unfolding read
-      check-is = checked 0 c.place (add-zero c.place) e
+      check_is = checked 0 c.place (add-zero c.place) e
 
-      pub check-in : x.found ≡ true → From c (on check (k ∷ []) a b) ≡ From x.cursor a
-      check-in y = check-is ∙ yes_case _ _ _ y
+      pub check_in : x.found ≡ true → From c (on check (k ∷ []) a b) ≡ From x.cursor a
+      check_in y = check_is ∙ yes_case _ _ _ y
 
-      pub check-out : x.found ≡ false → From c (on check (k ∷ []) a b) ≡ From x.cursor b
-      check-out y = check-is ∙ no_case _ _ _ y
+      pub check_out : x.found ≡ false → From c (on check (k ∷ []) a b) ≡ From x.cursor b
+      check_out y = check_is ∙ no_case _ _ _ y
 
     module _ (e : x ≡ check_ahead s c 1 k) where
       second_is : From c (on second (k ∷ []) a b) ≡ Pick x.found x.cursor a b
       unfolding read
       second_is = checked 1 (c.place + 1) refl e
 
-      pub second-in : x.found ≡ true → From c (on second (k ∷ []) a b) ≡ From x.cursor a
-      second-in y = second_is ∙ yes_case _ _ _ y
+      pub second_in : x.found ≡ true → From c (on second (k ∷ []) a b) ≡ From x.cursor a
+      second_in y = second_is ∙ yes_case _ _ _ y
 
-      pub second-out : x.found ≡ false → From c (on second (k ∷ []) a b) ≡ From x.cursor b
-      second-out y = second_is ∙ no_case _ _ _ y
+      pub second_out : x.found ≡ false → From c (on second (k ∷ []) a b) ≡ From x.cursor b
+      second_out y = second_is ∙ no_case _ _ _ y

@@ -30,7 +30,7 @@ use Rattle.parser.specs.declared.Step.{Step}
 use Rattle.parser.specs.declared.Step.TheVariants.{Done, Fail}
 use Rattle.parser.specs.declared.Part.{Part}
 use Rattle.parser.proofs.Kit.{alter, weighed, Going, turns, over}
-use Rattle.parser.proofs.Looks.{Row, pick, by_kind, begins-again, on-again}
+use Rattle.parser.proofs.Looks.{Row, pick, by_kind, begins_again, on_again}
 use Rattle.parser.proofs.Around.{held_at, keep_fine, keep_fail}
 
 -- the tag of the last tree that was read, or x
@@ -52,7 +52,7 @@ module _ (s : List ℕ) (k : Ranking) (g : ℕ) (c : Cursor) where
 
   -- which reads the same before the look at that token
   begun : (tag : ℕ) (e : Term) → wrap s tag unlined c.place (says s k g (any ⨾ e) (read_ahead s c 1)) ≡ wrap s tag unlined c.place (says s k g (any ⨾ e) c)
-  begun tag e = ap (wrap s tag unlined c.place) (begins-again s (ranks k) 0 (readers s (ranks k) g) (hold 0 0 none) again c.place c.mark e)
+  begun tag e = ap (wrap s tag unlined c.place) (begins_again s (ranks k) 0 (readers s (ranks k) g) (hold 0 0 none) again c.place c.mark e)
 
   pub dotted_is : kind s c.place ≡ 44 → says s k g suffix c ≡ says s k g P.dotted c
   unfolding read
@@ -73,7 +73,7 @@ module _ (s : List ℕ) (k : Ranking) (g : ℕ) (c : Cursor) where
   unfolding read args
   call_is j x real e =
       suffix_is j x real ∙ ap (λ (z : Term). says s k g z (read_ahead s c 1)) e
-      ∙ ap (wrap s 34 unlined c.place) (on-again s (ranks k) 0 (readers s (ranks k) g) (hold 0 0 none) again c.place c.mark (49 ∷ []) P.list Listless)
+      ∙ ap (wrap s 34 unlined c.place) (on_again s (ranks k) 0 (readers s (ranks k) g) (hold 0 0 none) again c.place c.mark (49 ∷ []) P.list Listless)
 
 -- a suffix with its tag
 wrap_last : (s : List ℕ) (tag : ℕ) (l : Line) (i : ℕ) {p m v : ℕ} {t : Forest} (o : Out) → wrap s tag l i o ≡ fine p m t v → last_from 0 (wrap s tag l i o) ≡ tag

@@ -48,27 +48,27 @@ module _ (s : List ℕ) (rank : Ranks) (limit : ℕ) (R : Readers) (h : Held) (A
 
   -- it was taken: what that reads; what it leaves
   module _ {t : Token} {d : Cursor} where
-    pub any-says : take_next s c ≡ Took t d → Reads any ≡ fine d.place d.mark none 0
-    any-says x = any_is s rank limit R h A c ∙ ap taken x
+    pub any_says : take_next s c ≡ Took t d → Reads any ≡ fine d.place d.mark none 0
+    any_says x = any_is s rank limit R h A c ∙ ap taken x
 
-    pub name-says : expect_name s c ≡ Took t d → Reads named ≡ fine d.place d.mark none 0
-    name-says x = name_is s rank limit R h A c ∙ ap taken x
+    pub name_says : expect_name s c ≡ Took t d → Reads named ≡ fine d.place d.mark none 0
+    name_says x = name_is s rank limit R h A c ∙ ap taken x
 
     module _ (n : List ℕ) (used more : ℕ) (f : Formed s) (l : used ≤ 4 * c.place + (4 + more)) where
-      pub any-fine : take_next s c ≡ Took t d → Fine s c.note (c.place + 1) used more n n (Reads any) d used 0
-      any-fine x = passed n used more f (took_next s c x) (any-says x) l
+      pub any_fine : take_next s c ≡ Took t d → Fine s c.note (c.place + 1) used more n n (Reads any) d used 0
+      any_fine x = passed n used more f (took_next s c x) (any_says x) l
 
-      pub name-fine : expect_name s c ≡ Took t d → Fine s c.note (c.place + 1) used more n n (Reads named) d used 0
-      name-fine x = passed n used more f (took_name s c x) (name-says x) l
+      pub name_fine : expect_name s c ≡ Took t d → Fine s c.note (c.place + 1) used more n n (Reads named) d used 0
+      name_fine x = passed n used more f (took_name s c x) (name_says x) l
 
-      pub word-fine : (k : ℕ) → eqb k 59 ≡ false → expecting k ≡ k + 1 → expect_next s c k ≡ Took t d → Fine s c.note (c.place + 1) used more n n (Reads (word k)) d used 0
-      word-fine k r q x = passed n used more f (took_kind s c k x) (word_is s rank limit R h A c k r q ∙ ap taken x) l
+      pub word_fine : (k : ℕ) → eqb k 59 ≡ false → expecting k ≡ k + 1 → expect_next s c k ≡ Took t d → Fine s c.note (c.place + 1) used more n n (Reads (word k)) d used 0
+      word_fine k r q x = passed n used more f (took_kind s c k x) (word_is s rank limit R h A c k r q ∙ ap taken x) l
 
   -- a leaf of the token just taken; its payload as a weight
   module _ (n : List ℕ) (used more : ℕ) {value : ℕ} (p : value ≡ payload s (c.place - 1)) (i : c.place < records s) where
-    pub leaf-fine : {n' : List ℕ} {u : ℕ} (tag : ℕ) → Ordinary tag → u ≡ used + 1 → u ≤ 4 * c.place + more → n' ≡ sets n (used * 4) (words tag value 0 1) → Fine s c.note c.place used more n n' (Reads (leaf tag)) c u 0
+    pub leaf_fine : {n' : List ℕ} {u : ℕ} (tag : ℕ) → Ordinary tag → u ≡ used + 1 → u ≤ 4 * c.place + more → n' ≡ sets n (used * 4) (words tag value 0 1) → Fine s c.note c.place used more n n' (Reads (leaf tag)) c u 0
     unfolding read
-    leaf-fine tag y q r w =
+    leaf_fine tag y q r w =
         record {
           trees = tree tag (payload s (c.place - 1)) 0 (c.place - 1) none none;
           says = refl;
@@ -80,9 +80,9 @@ module _ (s : List ℕ) (rank : Ranks) (limit : ℕ) (R : Readers) (h : Held) (A
           noted = sym (noted_tree s tag (payload s (c.place - 1)) 0 (c.place - 1) none none c.note y);
         }
 
-    pub weigh-fine : used ≤ 4 * c.place + more → Fine s c.note c.place used more n n (Reads weigh) c used value
+    pub weigh_fine : used ≤ 4 * c.place + more → Fine s c.note c.place used more n n (Reads weigh) c used value
     unfolding read
-    weigh-fine r = record { trees = none; says = ap (fine c.place c.mark none) (sym p); grown = omega arith; laid = refl; at = i; later = omega arith; room = r; noted = refl }
+    weigh_fine r = record { trees = none; says = ap (fine c.place c.mark none) (sym p); grown = omega arith; laid = refl; at = i; later = omega arith; room = r; noted = refl }
 
 -- a token, and a leaf of it
 pub leaf_after : (s : List ℕ) (rank : Ranks) (limit : ℕ) (R : Readers) (h : Held) (A : Reader) (c : Cursor) {t : Token} {d : Cursor} (n : List ℕ) {n' : List ℕ} (used more tag : ℕ) → Ordinary tag → Formed s → used + 1 ≤ 4 * c.place + (4 + more)
@@ -91,4 +91,4 @@ pub leaf_after : (s : List ℕ) (rank : Ranks) (limit : ℕ) (R : Readers) (h : 
 unfolding read
 leaf_after s rank limit R h A c {d = d} n used more tag y f l w x e a =
     let b = passed n used more f a e (omega arith) in
-    both {low' = d.place} (read s rank limit R h (leaf tag) A) b (leaf-fine s rank limit R h A d n used more (paid a) b.at tag y refl (omega (arith, a.place)) w) (omega arith)
+    both {low' = d.place} (read s rank limit R h (leaf tag) A) b (leaf_fine s rank limit R h A d n used more (paid a) b.at tag y refl (omega (arith, a.place)) w) (omega arith)

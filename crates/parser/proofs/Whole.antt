@@ -61,8 +61,8 @@ module _ (s : List ℕ) (k : Ranking) where
   block_fails x = chunk_block ∙ ap (finish s) x
 
   module _ {n n' : List ℕ} {c d : Cursor} {u : ℕ} (f : Fine s (note false NONE NONE) 0 0 1 n n' (says s k 199 block start) c u 0) where
-    pub chunk-ends : look_ahead s c 0 ≡ End d → Fine s (note false NONE NONE) 0 0 1 n n' (chunk s (ranks k) 199) d u 0
-    chunk-ends x =
+    pub chunk_ends : look_ahead s c 0 ≡ End d → Fine s (note false NONE NONE) 0 0 1 n n' (chunk s (ranks k) 199) d u 0
+    chunk_ends x =
         let r = ran_out s c x in
         let p : d.place ≡ c.place = ap (λ (z : Cursor). z.place) r.cursor in
         record {
@@ -76,8 +76,8 @@ module _ (s : List ℕ) (k : Ranking) where
           noted = ap (λ (z : Cursor). z.note) r.cursor ∙ f.noted;
         }
 
-    pub chunk-left : {t : Token} → look_ahead s c 0 ≡ Seen t d → chunk s (ranks k) 199 ≡ fail (record { number = 2; line = told s d.mark; found = 0; expected = 0 })
-    chunk-left x =
+    pub chunk_left : {t : Token} → look_ahead s c 0 ≡ Seen t d → chunk s (ranks k) 199 ≡ fail (record { number = 2; line = told s d.mark; found = 0; expected = 0 })
+    chunk_left x =
         let g = saw s c x in
         chunk_block ∙ ap (finish s) f.says ∙ no_case _ _ _ (ne_eqb _ _ g.real)
         ∙ sym (ap (λ (z : Cursor). fail (record { number = 2; line = told s z.mark; found = 0; expected = 0 })) g.cursor)
@@ -88,8 +88,8 @@ module _ (s : List ℕ) (k : Ranking) where
 
   -- an answer of the reading, and what it promises
   module _ {n n' : List ℕ} where
-    pub answered-malformed : {p : ℕ} → Malformed s p → Zeroed n n' → Answered s k n n' (refusing (record { number = 6; line = 0; found = p; expected = 0 }))
-    answered-malformed {p} b z =
+    pub answered_malformed : {p : ℕ} → Malformed s p → Zeroed n n' → Answered s k n n' (refusing (record { number = 6; line = 0; found = p; expected = 0 }))
+    answered_malformed {p} b z =
         record {
           malformed = λ q c. (ap (λ (x : ℕ). refusing (record { number = 6; line = 0; found = x; expected = 0 })) (malformed_once b c), z);
           accepts = λ t f. absurd (formed_not_malformed f b);
@@ -97,8 +97,8 @@ module _ (s : List ℕ) (k : Ranking) where
           refuses = λ e f. absurd (formed_not_malformed f b);
         }
 
-    pub answered-refused : {e : Refusal} → Formed s → chunk s (ranks k) 199 ≡ fail e → Zeroed n n' → Answered s k n n' (refusing e)
-    answered-refused {e} f x z =
+    pub answered_refused : {e : Refusal} → Formed s → chunk s (ranks k) 199 ≡ fail e → Zeroed n n' → Answered s k n n' (refusing e)
+    answered_refused {e} f x z =
         record {
           malformed = λ q c. absurd (formed_not_malformed f c);
           accepts = λ t g d. absurd (refused_none s k 199 x t d);
@@ -107,8 +107,8 @@ module _ (s : List ℕ) (k : Ranking) where
         }
 
     module _ (c : Cursor) {t : Forest} (f : Formed s) (x : chunk s (ranks k) 199 ≡ fine c.place c.mark t 0) where
-      pub answered-room : n' ≡ sets n 0 (flat t) → size t * 4 ≤ length n → Answered s k n n' (counting 0 (size t * 4))
-      answered-room l r =
+      pub answered_room : n' ≡ sets n 0 (flat t) → size t * 4 ≤ length n → Answered s k n n' (counting 0 (size t * 4))
+      answered_room l r =
           record {
             malformed = λ q b. absurd (formed_not_malformed f b);
             accepts = λ u g d i. rw (sym (its_own x d)) (refl, l ∙ lay_whole n t r);
@@ -116,8 +116,8 @@ module _ (s : List ℕ) (k : Ranking) where
             refuses = λ e g m y. absurd (m t (sound s (ranks k) 199 (is_ranked k) x));
           }
 
-      pub answered-short : Zeroed n n' → length n < size t * 4 → Answered s k n n' (counting 7 (size t * 4))
-      answered-short z r =
+      pub answered_short : Zeroed n n' → length n < size t * 4 → Answered s k n n' (counting 7 (size t * 4))
+      answered_short z r =
           record {
             malformed = λ q b. absurd (formed_not_malformed f b);
             accepts = λ u g d i. let q = ap size (its_own x d) in absurd (omega (arith, q, i, r));

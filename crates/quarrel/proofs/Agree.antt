@@ -80,12 +80,12 @@ module _ (s : List ℕ) (rank : Ranks) (laws : Lawful rank) where
     pub over : {l : ℕ} {t : Forest} {os : List Op} → l ≤ 13 → Fit s rank l t os → Over rank l (operators s t)
     over b (ends h) = tt
     over {l} b (tailed {p = p} {k = k} {r = r} a e x) =
-        (a, over_join rank l (operand s k) (operators s r) (over_less rank l (rank.right (kind s p)) (operand s k) (omega (arith, laws.near (kind s p))) (over-right (laws.low (kind s p)) e)) (over b x))
-    over {l} b (signed {k = k} {r = r} e x) = over_join rank l (operand s k) (operators s r) (over_high rank laws l (operand s k) b (over-right (omega arith) e)) (over b x)
+        (a, over_join rank l (operand s k) (operators s r) (over_less rank l (rank.right (kind s p)) (operand s k) (omega (arith, laws.near (kind s p))) (over_right (laws.low (kind s p)) e)) (over b x))
+    over {l} b (signed {k = k} {r = r} e x) = over_join rank l (operand s k) (operators s r) (over_high rank laws l (operand s k) b (over_right (omega arith) e)) (over b x)
     over {l} b (atom {tag = tag} {v = v} {n = n} {p = p} {k = k} {r = r} h e x) = subst (Over rank l) (sym (ops_atom s tag v n p k r h)) (over b x)
 
-    pub over-right : {l : ℕ} {t : Forest} {os : List Op} → l ≤ 13 → Right s rank l t os → Over rank l (operand s t)
-    over-right b (right x) = over b x
+    pub over_right : {l : ℕ} {t : Forest} {os : List Op} → l ≤ 13 → Right s rank l t os → Over rank l (operand s t)
+    over_right b (right x) = over b x
 
 step_same : (b w : Bool) → w ≡ true → step b b w ≡ true
 step_same true w h = h
@@ -128,8 +128,8 @@ module _ (s : List ℕ) (C M : Ranks) (laws : Lawful C) (laws' : Lawful M) (zero
     both {l} {l'} {os = os} b b' (tailed {p = p} {k = k} {r = r} a e x) (tailed a' e' x') q =
         let y = both b b' x x' q in
         let z = both_right (laws.low (kind s p)) (laws'.low (kind s p)) e e' y.sames in
-        let c = over_less C l (C.right (kind s p)) (operand s k) (omega (arith, laws.near (kind s p))) (over-right s C laws (laws.low (kind s p)) e) in
-        let m = over_less M l' (M.right (kind s p)) (operand s k) (omega (arith, laws'.near (kind s p))) (over-right s M laws' (laws'.low (kind s p)) e') in
+        let c = over_less C l (C.right (kind s p)) (operand s k) (omega (arith, laws.near (kind s p))) (over_right s C laws (laws.low (kind s p)) e) in
+        let m = over_less M l' (M.right (kind s p)) (operand s k) (omega (arith, laws'.near (kind s p))) (over_right s M laws' (laws'.low (kind s p)) e') in
         record {
           walks = rw (lt-ltb _ _ a, lt-ltb _ _ a', append_assoc (operand s k) (operators s r) os) (skip C M l l' (operand s k) (operators s r ++ os) c m ∙ y.walks);
           sames = rw (append_assoc (operand s k) (operators s r) os) (and_both _ _ z.walks z.sames);
@@ -139,8 +139,8 @@ module _ (s : List ℕ) (C M : Ranks) (laws : Lawful C) (laws' : Lawful M) (zero
     both {l} {l'} {os = os} b b' (signed {k = k} {r = r} e x) (signed e' x') q =
         let y = both b b' x x' q in
         let z = both_right (omega arith) (omega arith) e e' y.sames in
-        let c = over_high C laws l (operand s k) b (over-right s C laws (omega arith) e) in
-        let m = over_high M laws' l' (operand s k) b' (over-right s M laws' (omega arith) e') in
+        let c = over_high C laws l (operand s k) b (over_right s C laws (omega arith) e) in
+        let m = over_high M laws' l' (operand s k) b' (over_right s M laws' (omega arith) e') in
         record {
           walks = rw (append_assoc (operand s k) (operators s r) os) (skip C M l l' (operand s k) (operators s r ++ os) c m ∙ y.walks);
           sames = rw (append_assoc (operand s k) (operators s r) os) z.sames;
@@ -155,21 +155,21 @@ module _ (s : List ℕ) (C M : Ranks) (laws : Lawful C) (laws' : Lawful M) (zero
         record {
           walks = subst (λ cs. Walk C M l l' (cs ++ os)) o y.walks;
           sames = subst (λ cs. Same C M (cs ++ os)) o y.sames;
-          goods = subst (All G) (sym (within_atom s tag v n p k r h)) (all_join G (chains s k) (within s r) (both-fits e e') y.goods);
+          goods = subst (All G) (sym (within_atom s tag v n p k r h)) (all_join G (chains s k) (within s r) (both_fits e e') y.goods);
         }
 
     both_right : {l l' : ℕ} {t : Forest} {os : List Op} → l ≤ 13 → l' ≤ 13 → Right s C l t os → Right s M l' t os → Same C M os → Both l l' os (operand s t) (inner s t)
     both_right b b' (right x) (right x') q = both b b' x x' q
 
-    pub both-fits : {t : Forest} → Fits s C t → Fits s M t → All G (chains s t)
-    both-fits nothing nothing = tt
-    both-fits (whole {k = k} {r = r} x y) (whole x' y') =
+    pub both_fits : {t : Forest} → Fits s C t → Fits s M t → All G (chains s t)
+    both_fits nothing nothing = tt
+    both_fits (whole {k = k} {r = r} x y) (whole x' y') =
         let z = both (omega arith) (omega arith) x x' refl in
-        ((good (operators s k) (over s C laws (omega arith) x)).0 (rw append-nil at z.sames), all_join G (within s k) (chains s r) z.goods (both-fits y y'))
-    both-fits (whole x y) (part h' x' y') = wrong h'
-    both-fits (part h x y) (whole x' y') = wrong h
-    both-fits (part {tag = tag} {v = v} {n = n} {p = p} {k = k} {r = r} h x y) (part h' x' y') =
-        subst (All G) (sym (chains_part s tag v n p k r h)) (all_join G (chains s k) (chains s r) (both-fits x x') (both-fits y y'))
+        ((good (operators s k) (over s C laws (omega arith) x)).0 (rw append-nil at z.sames), all_join G (within s k) (chains s r) z.goods (both_fits y y'))
+    both_fits (whole x y) (part h' x' y') = wrong h'
+    both_fits (part h x y) (whole x' y') = wrong h
+    both_fits (part {tag = tag} {v = v} {n = n} {p = p} {k = k} {r = r} h x y) (part h' x' y') =
+        subst (All G) (sym (chains_part s tag v n p k r h)) (all_join G (chains s k) (chains s r) (both_fits x x') (both_fits y y'))
 
   -- a tree that fits the one, and whose chains are good, fits the other
   stops_too : (l l' : ℕ) (os : List Op) → Stop C l os → Walk C M l l' os → Stop M l' os
@@ -197,32 +197,32 @@ module _ (s : List ℕ) (C M : Ranks) (laws : Lawful C) (laws' : Lawful M) (zero
         let t = takes_too l l' (op s p) (operand s k ++ (operators s r ++ os)) a w' in
         let g' = all_parts G (inner s k) (within s r) g in
         let q'' = and_right (walk (pass C (C.right (kind s p))) (pass M (M.right (kind s p))) (operand s k ++ (operators s r ++ os))) _ q' in
-        let e' = moved-right {os = operators s r ++ os} (laws.low (kind s p)) (laws'.low (kind s p)) e (and_left _ (same (λ o. pass C (C.right o.sort)) (λ o. pass M (M.right o.sort)) (operand s k ++ (operators s r ++ os))) q') q'' g'.0 in
-        let c = over_less C l (C.right (kind s p)) (operand s k) (omega (arith, laws.near (kind s p))) (over-right s C laws (laws.low (kind s p)) e) in
-        let m = over_less M l' (M.right (kind s p)) (operand s k) (omega (arith, laws'.near (kind s p), t.0)) (over-right s M laws' (laws'.low (kind s p)) e') in
+        let e' = moved_right {os = operators s r ++ os} (laws.low (kind s p)) (laws'.low (kind s p)) e (and_left _ (same (λ o. pass C (C.right o.sort)) (λ o. pass M (M.right o.sort)) (operand s k ++ (operators s r ++ os))) q') q'' g'.0 in
+        let c = over_less C l (C.right (kind s p)) (operand s k) (omega (arith, laws.near (kind s p))) (over_right s C laws (laws.low (kind s p)) e) in
+        let m = over_less M l' (M.right (kind s p)) (operand s k) (omega (arith, laws'.near (kind s p), t.0)) (over_right s M laws' (laws'.low (kind s p)) e') in
         tailed t.0 e' (moved b b' x (sym (skip C M l l' (operand s k) (operators s r ++ os) c m) ∙ t.1) (same_rest C M (operand s k) (operators s r ++ os) q'') g'.1)
     moved {l} {l'} {os = os} b b' (signed {k = k} {r = r} e x) w q g =
         let z = append_assoc (operand s k) (operators s r) os in
         let w' = subst (Walk C M l l') z w in
         let q' = subst (Same C M) z q in
         let g' = all_parts G (inner s k) (within s r) g in
-        let e' = moved-right {l = 12} {l' = 12} {os = operators s r ++ os} (omega arith) (omega arith) e (high_walk (operand s k ++ (operators s r ++ os))) q' g'.0 in
-        let c = over_high C laws l (operand s k) b (over-right s C laws (omega arith) e) in
-        let m = over_high M laws' l' (operand s k) b' (over-right s M laws' (omega arith) e') in
+        let e' = moved_right {l = 12} {l' = 12} {os = operators s r ++ os} (omega arith) (omega arith) e (high_walk (operand s k ++ (operators s r ++ os))) q' g'.0 in
+        let c = over_high C laws l (operand s k) b (over_right s C laws (omega arith) e) in
+        let m = over_high M laws' l' (operand s k) b' (over_right s M laws' (omega arith) e') in
         signed e' (moved b b' x (sym (skip C M l l' (operand s k) (operators s r ++ os) c m) ∙ w') (same_rest C M (operand s k) (operators s r ++ os) q') g'.1)
     moved {l} {l'} {os = os} b b' (atom {tag = tag} {v = v} {n = n} {p = p} {k = k} {r = r} h e x) w q g =
         let o = ops_atom s tag v n p k r h in
         let g' = all_parts G (chains s k) (within s r) (subst (All G) (within_atom s tag v n p k r h) g) in
-        atom h (moved-fits e g'.0) (moved b b' x (subst (λ cs. Walk C M l l' (cs ++ os)) o w) (subst (λ cs. Same C M (cs ++ os)) o q) g'.1)
+        atom h (moved_fits e g'.0) (moved b b' x (subst (λ cs. Walk C M l l' (cs ++ os)) o w) (subst (λ cs. Same C M (cs ++ os)) o q) g'.1)
 
-    moved-right : {l l' : ℕ} {t : Forest} {os : List Op} → l ≤ 13 → l' ≤ 13 → Right s C l t os → Walk C M l l' (operand s t ++ os) → Same C M (operand s t ++ os) → All G (inner s t) → Right s M l' t os
-    moved-right b b' (right x) w q g = right (moved b b' x w q g)
+    moved_right : {l l' : ℕ} {t : Forest} {os : List Op} → l ≤ 13 → l' ≤ 13 → Right s C l t os → Walk C M l l' (operand s t ++ os) → Same C M (operand s t ++ os) → All G (inner s t) → Right s M l' t os
+    moved_right b b' (right x) w q g = right (moved b b' x w q g)
 
-    pub moved-fits : {t : Forest} → Fits s C t → All G (chains s t) → Fits s M t
-    moved-fits nothing g = nothing
-    moved-fits (whole {k = k} {r = r} x y) g =
+    pub moved_fits : {t : Forest} → Fits s C t → All G (chains s t) → Fits s M t
+    moved_fits nothing g = nothing
+    moved_fits (whole {k = k} {r = r} x y) g =
         let g' = all_parts G (within s k) (chains s r) g.1 in
-        whole (moved {l' = 0} (omega arith) (omega arith) x (zero_walk (operators s k ++ [])) (subst (Same C M) (sym (append-nil (operators s k))) ((good (operators s k) (over s C laws (omega arith) x)).1 g.0)) g'.0) (moved-fits y g'.1)
-    moved-fits (part {tag = tag} {v = v} {n = n} {p = p} {k = k} {r = r} h x y) g =
+        whole (moved {l' = 0} (omega arith) (omega arith) x (zero_walk (operators s k ++ [])) (subst (Same C M) (sym (append-nil (operators s k))) ((good (operators s k) (over s C laws (omega arith) x)).1 g.0)) g'.0) (moved_fits y g'.1)
+    moved_fits (part {tag = tag} {v = v} {n = n} {p = p} {k = k} {r = r} h x y) g =
         let g' = all_parts G (chains s k) (chains s r) (subst (All G) (chains_part s tag v n p k r h) g) in
-        part h (moved-fits x g'.0) (moved-fits y g'.1)
+        part h (moved_fits x g'.0) (moved_fits y g'.1)

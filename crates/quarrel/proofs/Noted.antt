@@ -115,10 +115,10 @@ record Among (cs : List (List Op)) (i : ℕ) : Type 0 where
 
 lows_lowest : (cs : List (List Op)) → Least (Among cs) (lows cs)
 unfolding lows
-lows_lowest [] = nowhere (λ i x. no-chain x.its)
+lows_lowest [] = nowhere (λ i x. no_chain x.its)
   where
-    no-chain : {c : List Op} → In c [] → ⊥
-    no-chain = elim [ ]
+    no_chain : {c : List Op} → In c [] → ⊥
+    no_chain = elim [ ]
 lows_lowest (c ∷ cs) = least_alike join split (least_both (run_lowest c) (lows_lowest cs))
   where
     join : (i : ℕ) → Placed c i ⊎ Among cs i → Among (c ∷ cs) i

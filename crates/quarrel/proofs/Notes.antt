@@ -148,23 +148,23 @@ real_operator s rank r p {l} a = inside s p (λ e. wrong (r EndOfStream (subst (
 module _ (s : List ℕ) (rank : Ranks) (ranked : Ranked rank) (few : records s ≤ NONE) where
   mutual
     -- through the parts of an expression, what is noted is the machine's state
-    codes-parts : {l : ℕ} {n : Note} {z : State} {t : Forest} {os : List Op} → Fit s rank l t os → Codes n z → Codes (noted s t n) (M.noted s t z)
-    codes-parts (ends h) c = c
-    codes-parts (tailed {p = p} a k r) c = codes-parts r (codes-held k (codes_step (op s p) (omega (arith, real_operator s rank ranked p a)) c))
-    codes-parts (signed k r) c = codes-parts r (codes-held k c)
-    codes-parts {n = m} {z = z} (atom {tag = tag} {v = v} {n = l} {p = p} {k = k} {r = r} h x y) c =
-        subst₂ Codes (sym (noted_apart s tag v l p k r h m)) (sym (machine_apart s tag v l p k r h z)) (codes-parts y (codes-around x c))
+    codes_parts : {l : ℕ} {n : Note} {z : State} {t : Forest} {os : List Op} → Fit s rank l t os → Codes n z → Codes (noted s t n) (M.noted s t z)
+    codes_parts (ends h) c = c
+    codes_parts (tailed {p = p} a k r) c = codes_parts r (codes_held k (codes_step (op s p) (omega (arith, real_operator s rank ranked p a)) c))
+    codes_parts (signed k r) c = codes_parts r (codes_held k c)
+    codes_parts {n = m} {z = z} (atom {tag = tag} {v = v} {n = l} {p = p} {k = k} {r = r} h x y) c =
+        subst₂ Codes (sym (noted_apart s tag v l p k r h m)) (sym (machine_apart s tag v l p k r h z)) (codes_parts y (codes_around x c))
 
-    codes-held : {l : ℕ} {n : Note} {z : State} {t : Forest} {os : List Op} → Right s rank l t os → Codes n z → Codes (held s t n) (M.held s t z)
-    codes-held (right k) c = codes-parts k c
+    codes_held : {l : ℕ} {n : Note} {z : State} {t : Forest} {os : List Op} → Right s rank l t os → Codes n z → Codes (held s t n) (M.held s t z)
+    codes_held (right k) c = codes_parts k c
 
     -- through trees around expressions only what is found changes
-    codes-around : {n : Note} {z : State} {t : Forest} → Fits s rank t → Codes n z → Codes (noted s t n) (M.finding z (M.nested s t (found z)))
-    codes-around {n = m} {z = z} nothing c = subst (Codes m) (sym (finding_found z)) c
-    codes-around {n = m} {z = z} (whole {v = v} {n = l} {p = p} {k = k} {r = r} x y) c =
-        subst (Codes (noted s (tree 17 v l p k r) m)) (finding_on z (found (M.noted s k (state false none (found z)))) (M.nested s r)) (codes-around y (codes_resumed c (codes-parts x (codes_fresh c))))
-    codes-around {n = m} {z = z} (part {tag = tag} {v = v} {n = l} {p = p} {k = k} {r = r} h x y) c =
-        subst₂ Codes (sym (noted_apart s tag v l p k r h m)) (finding_on z (M.nested s k (found z)) (M.nested s r) ∙ ap (M.finding z) (sym (nested_apart s tag v l p k r h (found z)))) (codes-around y (codes-around x c))
+    codes_around : {n : Note} {z : State} {t : Forest} → Fits s rank t → Codes n z → Codes (noted s t n) (M.finding z (M.nested s t (found z)))
+    codes_around {n = m} {z = z} nothing c = subst (Codes m) (sym (finding_found z)) c
+    codes_around {n = m} {z = z} (whole {v = v} {n = l} {p = p} {k = k} {r = r} x y) c =
+        subst (Codes (noted s (tree 17 v l p k r) m)) (finding_on z (found (M.noted s k (state false none (found z)))) (M.nested s r)) (codes_around y (codes_resumed c (codes_parts x (codes_fresh c))))
+    codes_around {n = m} {z = z} (part {tag = tag} {v = v} {n = l} {p = p} {k = k} {r = r} h x y) c =
+        subst₂ Codes (sym (noted_apart s tag v l p k r h m)) (finding_on z (M.nested s k (found z)) (M.nested s r) ∙ ap (M.finding z) (sym (nested_apart s tag v l p k r h (found z)))) (codes_around y (codes_around x c))
 
 -- what is found
 found_told : (s : List ℕ) (t : Forest) (q : Option ℕ) → M.nested s t none ≡ q → Names s t (code q)
@@ -176,4 +176,4 @@ codes_told s t (codes e l) = subst (Names s t) (sym (ap (λ n. n.found) e)) (fou
 
 -- and so of a derived tree
 pub first_noted : (s : List ℕ) → Formed s → (rank : Ranks) (g : ℕ) {t : Forest} → Ranked rank → Chunk s rank g t → Names s t (noted s t (note false NONE NONE)).found
-first_noted s w rank g {t} r c = codes_told s t (codes-around s rank r (omega (arith, few s w)) (fits s rank (to_terms s rank r c)) (codes {z = start} refl (tt, tt)))
+first_noted s w rank g {t} r c = codes_told s t (codes_around s rank r (omega (arith, few s w)) (fits s rank (to_terms s rank r c)) (codes {z = start} refl (tt, tt)))

@@ -21,7 +21,7 @@ use Rattle.quarrel.proofs.Walks.{step, walk, same, takes}
 use Rattle.quarrel.proofs.Classes.{crate, manual, same_clear, left_class, right_class, left_manual, right_manual}
 use Rattle.quarrel.proofs.Words.{clear_words}
 use Rattle.quarrel.proofs.Fit.{Fits}
-use Rattle.quarrel.proofs.Agree.{Lawful, pass, Over, Same, All, both-fits, moved-fits}
+use Rattle.quarrel.proofs.Agree.{Lawful, pass, Over, Same, All, both_fits, moved_fits}
 use Rattle.quarrel.proofs.Marks.{fits}
 use Rattle.quarrel.proofs.Carry.{carry}
 
@@ -98,7 +98,7 @@ pub quiet : (s : List ℕ) (g : ℕ) {t : Forest} → Chunk s (ranks Crate) g t 
 quiet s g {t} c f =
     let c' = to_terms s (ranks Crate) (is_ranked Crate) c in
     let a : All Good (chains s t) = in_all (chains s t) (λ e i o z. f o.place record { chain = e; its = i; one = o; quarrels = z; there = refl }) in
-    let y = moved-fits s (ranks Crate) (ranks Manual) crate_keeps manual_keeps same_operators same_highs Good good (fits s (ranks Crate) c') a in
+    let y = moved_fits s (ranks Crate) (ranks Manual) crate_keeps manual_keeps same_operators same_highs Good good (fits s (ranks Crate) c') a in
     from_terms s (ranks Manual) (is_ranked Manual) (carry s (ranks Crate) (ranks Manual) none_too c' y)
 
 -- the two rankings give a stream one tree if and only if no `~=` of it quarrels
@@ -107,6 +107,6 @@ differ s g {t} {u} c d = (
   (λ q i z.
       let x : Fits s (ranks Crate) t = fits s (ranks Crate) (to_terms s (ranks Crate) (is_ranked Crate) c) in
       let y : Fits s (ranks Manual) t = subst (Fits s (ranks Manual)) (sym q) (fits s (ranks Manual) (to_terms s (ranks Manual) (is_ranked Manual) d)) in
-      all_in (both-fits s (ranks Crate) (ranks Manual) crate_keeps manual_keeps same_operators same_highs Good good x y) z.its z.one z.quarrels),
+      all_in (both_fits s (ranks Crate) (ranks Manual) crate_keeps manual_keeps same_operators same_highs Good good x y) z.its z.one z.quarrels),
   (λ f. unique s (ranks Manual) g (is_ranked Manual) (quiet s g c f) d),
 )

@@ -40,10 +40,10 @@ up_to s y (suc n) l = go (up_to s y n (omega arith)) (good s n) refl
 pub formed_or_not : (s : List ℕ) → Formed s ⊎ ((p : ℕ) × Malformed s p)
 formed_or_not s = by_size (sized s) refl
   where
-    by-records : sized s ≡ true → ((q : ℕ) → q < records s → good s q ≡ true) ⊎ ((p : ℕ) × Malformed s p) → Formed s ⊎ ((p : ℕ) × Malformed s p)
-    by-records y (inl f) = inl (record { size = y; each = f })
-    by-records y (inr m) = inr m
+    by_records : sized s ≡ true → ((q : ℕ) → q < records s → good s q ≡ true) ⊎ ((p : ℕ) × Malformed s p) → Formed s ⊎ ((p : ℕ) × Malformed s p)
+    by_records y (inl f) = inl (record { size = y; each = f })
+    by_records y (inr m) = inr m
 
     by_size : (b : Bool) → sized s ≡ b → Formed s ⊎ ((p : ℕ) × Malformed s p)
-    by_size true y = by-records y (up_to s y (records s) (omega arith))
+    by_size true y = by_records y (up_to s y (records s) (omega arith))
     by_size false n = inr (0, bad_length n)

@@ -10,10 +10,10 @@ use Rattle.stream.specs.declared.reader.Look.TheVariants.{Seen, End}
 
 -- a second look reaches no further
 pub reached_twice : (s : List ℕ) (m p n : ℕ) → reached s (reached s m p n) p n ≡ reached s m p n
-reached_twice s m p n = max-twice m (min (p + n) (records s))
+reached_twice s m p n = max_twice m (min (p + n) (records s))
   where
-    max-twice : (a b : ℕ) → max (max a b) b ≡ max a b
-    max-twice a b = omega arith
+    max_twice : (a b : ℕ) → max (max a b) b ≡ max a b
+    max_twice a b = omega arith
 
 module _ (s : List ℕ) (c : Cursor) where
   pub get_end : kind s c.place ≡ 59 → get_next s c ≡ Fail (ended s (read_ahead s c 1) 0)

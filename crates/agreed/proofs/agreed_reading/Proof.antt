@@ -5,7 +5,7 @@ use borrow.Author.Tests.{not-true, not-false}
 use lib.ListN.{replicate}
 use Rattle.operators.specs.declared.Ranking.TheVariants.{Crate}
 use Rattle.agreed.proofs.Readings.{kept}
-use Rattle.agreed.proofs.Cases.{took_is, left_is, agree, manual-refuses, quarrel}
+use Rattle.agreed.proofs.Cases.{took_is, left_is, agree, manual_refuses, quarrel}
 use borrow.Author.Rules.{rules}
 use Rattle.agreed.proofs.agreed_reading.Statement.{statement}
 use Rattle.agreed.proofs.agreed_reading.Tie as tie
@@ -43,7 +43,7 @@ same-length-2 c = search rules
 
 -- src/lib.rt:46:9
 returns-2 : tie.Need-returns-2
-returns-2 c = manual-refuses c.before.before.before.before.before.before.before.before.before.before.before.before.before.args.stream.now c.before.before.before.before.before.before.before.before.before.before.before.before.before.args.nodes.now c.before.before.before.before.before.before.before.before.before.reading.new.1.0 c.before.before.before.before.before.before.before.before.before.reading.result.answer c.before.before.before.before.before.before.before.before.before.reading.result.first c.before.before.before.before.before.before.before.before.before.reading.ensures.0 c.before.before.before.before.before.before.before.before.before.reading.ensures.1 c.before.before.before.before.before.before.if1.false c.before.before.before.before.manual-reading.new.1.0 c.before.before.before.before.manual-reading.result c.before.before.before.before.manual-reading.ensures (left_is c.before.before.before.before.manual-reading.result (sym c.before.took.ensures ∙ not-true _ c.if2.true))
+returns-2 c = manual_refuses c.before.before.before.before.before.before.before.before.before.before.before.before.before.args.stream.now c.before.before.before.before.before.before.before.before.before.before.before.before.before.args.nodes.now c.before.before.before.before.before.before.before.before.before.reading.new.1.0 c.before.before.before.before.before.before.before.before.before.reading.result.answer c.before.before.before.before.before.before.before.before.before.reading.result.first c.before.before.before.before.before.before.before.before.before.reading.ensures.0 c.before.before.before.before.before.before.before.before.before.reading.ensures.1 c.before.before.before.before.before.before.if1.false c.before.before.before.before.manual-reading.new.1.0 c.before.before.before.before.manual-reading.result c.before.before.before.before.manual-reading.ensures (left_is c.before.before.before.before.manual-reading.result (sym c.before.took.ensures ∙ not-true _ c.if2.true))
 
 -- src/lib.rt:48:5
 clear-requires : tie.Need-clear-requires
