@@ -1,0 +1,6 @@
+-- `crate_reading` meets its contract.
+use Prim.Native.Nat.{◌-◌}
+use Rattle.parser.proofs.crate_reading.Goals as goal
+
+pub returns : goal.returns
+returns c = c.reading-r.ensures.0

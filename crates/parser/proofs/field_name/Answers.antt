@@ -1,0 +1,34 @@
+-- `field_name` meets its contract.
+use mathlib.Core.Path.{refl, sym, ap, ◌∙◌}
+use Prim.Native.Nat.{◌+◌, ◌-◌}
+use native.Mathlib.Omega.{arith}
+use Rattle.operators.specs.Ranks.{ranks}
+use Rattle.tree.specs.Forest.{none}
+use Rattle.grammar.specs.Reading.{read, hold, wrap}
+use Rattle.grammar.specs.Levels.{readers}
+use Rattle.grammar.specs.Term.{unlined}
+use Rattle.parser.specs.Contract.{again}
+use Rattle.parser.proofs.Steps.{took_name}
+use Rattle.parser.proofs.Kit.{kept, revalue, stop, past, both, over}
+use Rattle.parser.proofs.Tokens.{paid, any_fail, name_fail, any_fine, name_fine, weigh_fine}
+use Rattle.parser.proofs.field_name.Goals as goal
+
+pub returns-in-Fail : goal.returns-in-Fail
+unfolding read
+returns-in-Fail c = λ k h. ap (wrap c.args.stream.now 32 unlined c.args.c.place) (stop _ (any_fail c.args.stream.now (ranks k) 0 (readers c.args.stream.now (ranks k) h) (hold 0 0 none) again c.args.c (sym c.in-Fail.ensures)))
+
+pub returns-in-Fail-expect_name : goal.returns-in-Fail-expect_name
+unfolding read
+returns-in-Fail-expect_name c =
+    λ k h.
+    let f1 = any_fine c.args.stream.now (ranks k) 0 (readers c.args.stream.now (ranks k) h) (hold 0 0 none) again c.args.c c.args.nodes.now (c.args.used + 1) 0 c.requires.formed (omega (arith, c.requires.room)) (sym c.in-Took.ensures) in
+    ap (wrap c.args.stream.now 32 unlined c.args.c.place) (past _ f1 (stop _ (name_fail c.args.stream.now (ranks k) 0 (readers c.args.stream.now (ranks k) h) (hold 0 0 none) again c.in-Took.d (sym c.in-Fail-expect_name.ensures))))
+
+pub returns-in-Took-expect_name : goal.returns-in-Took-expect_name
+unfolding read
+returns-in-Took-expect_name c =
+    λ k h.
+    let f1 = any_fine c.args.stream.now (ranks k) 0 (readers c.args.stream.now (ranks k) h) (hold 0 0 none) again c.args.c c.args.nodes.now (c.args.used + 1) 0 c.requires.formed (omega (arith, c.requires.room)) (sym c.in-Took.ensures) in
+    let f2 = name_fine c.args.stream.now (ranks k) 0 (readers c.args.stream.now (ranks k) h) (hold 0 0 none) again c.in-Took.d c.args.nodes.now (c.args.used + 1) 0 c.requires.formed (omega (arith, f1.room)) (sym c.in-Took-expect_name.ensures) in
+    let f3 = weigh_fine c.args.stream.now (ranks k) 0 (readers c.args.stream.now (ranks k) h) (hold 0 0 none) again c.in-Took-expect_name.e c.args.nodes.now (c.args.used + 1) 0 (paid (took_name c.args.stream.now c.in-Took.d (sym c.in-Took-expect_name.ensures))) f2.at f2.room in
+    rw c.close.ensures.0 (over 32 unlined c.args.c.place 0 (refl, refl, refl) (revalue (omega arith) (both _ f1 (both _ f2 f3 (omega arith)) (omega arith))) c.close.ensures.1 refl)
