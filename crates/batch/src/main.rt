@@ -4,11 +4,13 @@
 // the crate, the manual and the agreed reading: the tree, a record a line, where there is one, and the five numbers of the answer.
 #![tactic(auto)]
 
-ghost use Rattle.std.specs.Prelude.{◌+◌, ◌*◌, ◌≤◌, ◌≡◌, length};
+ghost use Rattle.std.specs.Prelude.{◌+◌, ◌*◌, ◌≤◌, ◌<◌, ◌≡◌, IfOk, length, take};
+ghost use Rattle.std.specs.Io.KnownBytes.{Consumes, IsAtEnd};
 
-use libc::STDOUT_FILENO;
 use lines::{LINE, Lines};
 use parser::Answer;
+use std::io;
+use std::io::Read;
 
 // The bytes that are read at a time, whole lines; the words of 2,048 tree records.
 const BLOCK: usize = 62320;
@@ -21,7 +23,7 @@ const END: u64 = 59;
 const BLOCKS: u64 = 1000000000;
 
 // One record, in the form in which records are read.
-fn print_record(nodes: &[u64; 8192], at: usize)
+fn print_record(out: &impl Print, nodes: &[u64; 8192], at: usize) -> io::Result<()>
     requires { at + 4 ≤ 8192 }
 {
     let mut line = [0u8; 38];
@@ -33,21 +35,22 @@ fn print_record(nodes: &[u64; 8192], at: usize)
         nodes[at + 2],
         nodes[at + 3],
     );
-    io::write_all(STDOUT_FILENO, &line);
+    out.write_all(&line)
 }
 
-fn print_tree(nodes: &[u64; 8192], count: usize) {
+fn print_tree(out: &impl Print, nodes: &[u64; 8192], count: usize) -> io::Result<()> {
     let mut i = 0;
     while i < count {
         if i + 4 > NODES {
             break;
         }
-        print_record(nodes, i);
+        print_record(out, nodes, i)?;
         i += 4;
     }
+    Ok(())
 }
 
-fn print_answer(a: Answer) {
+fn print_answer(out: &impl Print, a: Answer) -> io::Result<()> {
     let mut line = [0u8; 45];
     lines::write_answer(
         &mut line,
@@ -57,7 +60,7 @@ fn print_answer(a: Answer) {
         a.expected,
         a.count as u64,
     );
-    io::write_all(STDOUT_FILENO, &line);
+    out.write_all(&line)
 }
 
 // The pattern that the node array holds before a reading.
@@ -97,98 +100,118 @@ fn zeroed(nodes: &[u64; 8192]) -> bool {
 }
 
 // An answer, and loudly where the array is not as demand 1 promises.
-fn tell(nodes: &[u64; 8192], a: Answer) {
+fn tell(out: &impl Print, nodes: &[u64; 8192], a: Answer) -> io::Result<()> {
     if a.number == 0 {
-        print_tree(nodes, a.count);
+        print_tree(out, nodes, a.count)?;
         if !unchanged(nodes, a.count) {
-            io::write_all(STDOUT_FILENO, b"WORDS PAST THE COUNT WERE CHANGED\n");
+            out.write_all(b"WORDS PAST THE COUNT WERE CHANGED\n")?;
         }
     } else {
         if !zeroed(nodes) {
-            io::write_all(STDOUT_FILENO, b"A REFUSAL LEFT WORDS\n");
+            out.write_all(b"A REFUSAL LEFT WORDS\n")?;
         }
     }
-    print_answer(a);
+    print_answer(out, a)
 }
 
-fn readings(stream: &[u64], nodes: &mut [u64; 8192]) {
+fn readings(out: &impl Print, stream: &[u64], nodes: &mut [u64; 8192]) -> io::Result<()> {
     fill(nodes);
     let a = parser::crate_reading(stream, nodes);
-    tell(nodes, a);
+    tell(out, nodes, a)?;
     fill(nodes);
     let b = parser::manual_reading(stream, nodes);
-    tell(nodes, b);
+    tell(out, nodes, b)?;
     fill(nodes);
     let c = agreed::agreed_reading(stream, nodes);
-    tell(nodes, c);
+    tell(out, nodes, c)
 }
 
 // Loudly, of a line that is no record's.
-fn other_form() {
-    io::write_all(STDOUT_FILENO, b"A LINE HAS ANOTHER FORM\n");
+fn other_form(out: &impl Print) -> io::Result<()> {
+    out.write_all(b"A LINE HAS ANOTHER FORM\n")
 }
 
 // One line, after so many records of its stream; how many there are then. At the end of a stream its readings are told.
 fn take_line(
+    out: &impl Print,
     stream: &mut [u64],
     nodes: &mut [u64; 8192],
     records: usize,
     text: &[u8],
     at: usize,
-) -> usize
+) -> io::Result<usize>
     requires { (length stream.old ≡ 4100) × (records ≤ 1025) × (at + 38 ≤ length text.now) }
-    ensures { result ≤ 1025 }
+    ensures { IfOk result (λ n. n ≤ 1025) }
 {
     let mut record = [0u64; 4];
     let end = at + LINE;
     let Lines::Records(_) = lines::read_lines(&text[at..end], &mut record, 1) else {
-        other_form();
-        return records;
+        other_form(out)?;
+        return Ok(records);
     };
     let kind = record[0];
     if records == 1025 {
         if kind != END {
-            return records;
+            return Ok(records);
         }
-        io::write_all(STDOUT_FILENO, b"A STREAM HAS MORE THAN 1024 TOKENS\n");
-        return 0;
+        out.write_all(b"A STREAM HAS MORE THAN 1024 TOKENS\n")?;
+        return Ok(0);
     }
     tree::put(stream, records, kind, record[1], record[2], record[3]);
     let more = records + 1;
     if kind != END {
-        return more;
+        return Ok(more);
     }
     let words = more * 4;
-    readings(&stream[..words], nodes);
-    0
+    readings(out, &stream[..words], nodes)?;
+    Ok(0)
 }
 
 // The lines of a block, after so many records of a stream; how many of the last stream there are then.
 fn take_lines(
+    out: &impl Print,
     stream: &mut [u64],
     nodes: &mut [u64; 8192],
     records: usize,
     text: &[u8],
     n: usize,
-) -> usize
+) -> io::Result<usize>
     requires { (length stream.old ≡ 4100) × (records ≤ 1025) × (n ≤ length text.now) }
-    ensures { result ≤ 1025 }
+    ensures { IfOk result (λ n. n ≤ 1025) }
 {
     let mut r = records;
     let mut left = n;
     let mut at = 0;
     while left >= LINE {
-        r = take_line(stream, nodes, r, text, at);
+        r = take_line(out, stream, nodes, r, text, at)?;
         at += LINE;
         left -= LINE;
     }
     if left != 0 {
-        other_form();
+        other_form(out)?;
     }
-    r
+    Ok(r)
 }
 
-fn main() {
+// Fills `buf` from the front, until it is full or the input ends; how many bytes there are then. A read may give fewer than there is room for.
+// At an error, also where a signal interrupts a read, the bytes that came before it are lost.
+fn read_full<R: Read>(input: &mut R, buf: &mut [u8]) -> io::Result<usize>
+    ensures within { IfOk result (λ n. n ≤ length buf.new) }
+    ensures bytes { IfOk result (λ n. Consumes (R.remaining input.old) (R.remaining input.new) (take n buf.new)) }
+    ensures end { IfOk result (λ n. n < length buf.new → IsAtEnd (R.remaining input.new)) }
+{
+    let mut n = 0;
+    while n < buf.len() {
+        let more = input.read(&mut buf[n..])?;
+        if more == 0 {
+            return Ok(n);
+        }
+        n += more;
+    }
+    Ok(n)
+}
+
+fn main(rt: HostRuntime) -> io::Result<()> {
     let mut text = [0u8; 62320];
     let mut space = [0u64; 4100];
     let stream: &mut [u64] = &mut space;
@@ -196,14 +219,15 @@ fn main() {
     let mut records = 0;
     let mut blocks: u64 = 0;
     while blocks < BLOCKS {
-        let n = io::read_full(0, &mut text);
-        records = take_lines(stream, &mut nodes, records, &text, n);
+        let n = read_full(&mut rt.stdin(), &mut text)?;
+        records = take_lines(&rt, stream, &mut nodes, records, &text, n)?;
         if n < BLOCK {
             break;
         }
         blocks += 1;
     }
     if records != 0 {
-        io::write_all(STDOUT_FILENO, b"A STREAM HAS NO END\n");
+        rt.write_all(b"A STREAM HAS NO END\n")?;
     }
+    Ok(())
 }
