@@ -1,12 +1,11 @@
 -- `chunk` meets its contract.
 use mathlib.Core.Path.{sym, ap, ◌∙◌}
 use mathlib.Core.Bool.{false}
-use Prim.Native.Nat.{ℕ, ◌-◌}
+use Prim.Native.Nat.{ℕ}
 use native.Mathlib.Omega.{arith}
-use Rattle.grammar.specs.Reading.{fail, last}
+use Rattle.grammar.specs.Reading.{fail}
 use Rattle.parser.specs.Contract.{says}
 use Rattle.stream.proofs.Words.{some}
-use Rattle.parser.proofs.Kit.{kept}
 use Rattle.parser.proofs.Whole.{start, failed, done, block_fails, chunk_ends, chunk_left}
 use Rattle.grammar.specs.Productions.{block as block'}
 use Rattle.quarrel.specs.Notes.{NONE, note}

@@ -10,7 +10,7 @@ use Rattle.grammar.specs.Levels.{readers}
 use Rattle.grammar.specs.Term.{empty}
 use Rattle.parser.specs.Contract.{again}
 use Rattle.parser.proofs.Steps.{look_out, end_out, look_place, end_place, look_note, end_note, saw_line}
-use Rattle.parser.proofs.Kit.{kept, looked}
+use Rattle.parser.proofs.Kit.{looked}
 use lib.Seq.{sets}
 use Rattle.tree.specs.Forest.{words}
 use Rattle.parser.proofs.close_block.Goals as goal

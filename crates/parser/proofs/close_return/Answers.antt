@@ -1,8 +1,6 @@
 -- `close_return` meets its contract.
 use mathlib.Core.Path.{sym, ◌∙◌}
-use Prim.Native.Nat.{◌-◌}
 use native.Mathlib.Omega.{arith}
-use borrow.Author.Tests.{not-true, not-false}
 use Rattle.operators.specs.Ranks.{ranks}
 use Rattle.tree.specs.Forest.{none}
 use Rattle.grammar.specs.Reading.{read, hold}
@@ -10,7 +8,7 @@ use Rattle.grammar.specs.Levels.{readers}
 use Rattle.grammar.specs.Term.{empty, any}
 use Rattle.parser.specs.Contract.{again}
 use Rattle.parser.proofs.Steps.{check_in, check_out, check_place, check_note}
-use Rattle.parser.proofs.Kit.{kept, lower, alter, renoted, looked}
+use Rattle.parser.proofs.Kit.{lower, alter, renoted, looked}
 use Rattle.parser.proofs.Tokens.{any_fail, any_fine}
 use Rattle.parser.proofs.close_return.Goals as goal
 

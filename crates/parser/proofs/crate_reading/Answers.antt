@@ -1,5 +1,4 @@
 -- `crate_reading` meets its contract.
-use Prim.Native.Nat.{◌-◌}
 use Rattle.parser.proofs.crate_reading.Goals as goal
 
 pub returns : goal.returns

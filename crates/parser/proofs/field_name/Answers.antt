@@ -1,6 +1,6 @@
 -- `field_name` meets its contract.
-use mathlib.Core.Path.{refl, sym, ap, ◌∙◌}
-use Prim.Native.Nat.{◌+◌, ◌-◌}
+use mathlib.Core.Path.{refl, sym, ap}
+use Prim.Native.Nat.{◌+◌}
 use native.Mathlib.Omega.{arith}
 use Rattle.operators.specs.Ranks.{ranks}
 use Rattle.tree.specs.Forest.{none}
@@ -9,7 +9,7 @@ use Rattle.grammar.specs.Levels.{readers}
 use Rattle.grammar.specs.Term.{unlined}
 use Rattle.parser.specs.Contract.{again}
 use Rattle.parser.proofs.Steps.{took_name}
-use Rattle.parser.proofs.Kit.{kept, revalue, stop, past, both, over}
+use Rattle.parser.proofs.Kit.{revalue, stop, past, both, over}
 use Rattle.parser.proofs.Tokens.{paid, any_fail, name_fail, any_fine, name_fine, weigh_fine}
 use Rattle.parser.proofs.field_name.Goals as goal
 

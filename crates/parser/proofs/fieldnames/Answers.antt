@@ -2,27 +2,22 @@
 use mathlib.Core.Path.{◌≡◌, refl, sym, ap, ◌∙◌}
 use mathlib.Core.List.{[], ◌∷◌}
 use mathlib.Core.Bool.{false}
-use Prim.Native.Nat.{ℕ, ◌+◌, ◌*◌, ◌-◌, ◌≤◌, ◌<◌}
 use native.Mathlib.Omega.{arith}
 use Rattle.operators.specs.Ranks.{ranks}
-use Rattle.operators.specs.declared.Ranking.{Ranking}
 use Rattle.operators.specs.declared.Ranking.TheVariants.{Crate}
-use Rattle.stream.specs.Words.{records}
-use Rattle.stream.specs.Formed.{Formed}
 use Rattle.tree.specs.Forest.{none}
-use Rattle.grammar.specs.Reading.{Out, read, hold, then, loop}
+use Rattle.grammar.specs.Reading.{Out, read, hold, then}
 use Rattle.grammar.specs.Levels.{readers}
 use Rattle.grammar.specs.Term.{ahead, opt}
 use Rattle.grammar.specs.Term.{empty, any, plus, ◌⨾◌, on, iter}
 use Rattle.grammar.specs.Term.{again as again'}
 use Rattle.grammar.specs.Member.{member}
 use Rattle.grammar.specs.Productions.{nameleaf}
-use Rattle.parser.specs.Contract.{says, under, again}
-use Rattle.parser.specs.Parts as P
+use Rattle.parser.specs.Contract.{under, again}
 use Rattle.stream.proofs.Words.{few}
 use Rattle.parser.proofs.Steps.{took_next, look_in, look_out, end_out, look_place, end_place, look_note, end_note}
 use Rattle.grammar.proofs.Among.{among, one, other}
-use Rattle.parser.proofs.Kit.{add_none, then_assoc, kept, alter, revalue, renoted, looked, weighs, Going, begin, going_length, fails, ends, turns, stop, past, both}
+use Rattle.parser.proofs.Kit.{add_none, then_assoc, alter, revalue, renoted, looked, weighs, begin, fails, ends, turns, stop, past, both}
 use Rattle.parser.proofs.Tokens.{ready_after, any_fail, any_fine}
 use Rattle.parser.proofs.Looks.{look_again, end_again}
 use Rattle.parser.proofs.Around.{looping}

@@ -1,6 +1,6 @@
 -- `goto` meets its contract.
-use mathlib.Core.Path.{refl, sym, ap, ◌∙◌}
-use Prim.Native.Nat.{◌+◌, ◌-◌}
+use mathlib.Core.Path.{refl, sym, ap}
+use Prim.Native.Nat.{◌+◌}
 use native.Mathlib.Omega.{arith}
 use Rattle.operators.specs.Ranks.{ranks}
 use Rattle.tree.specs.Forest.{none}
@@ -9,7 +9,7 @@ use Rattle.grammar.specs.Levels.{readers}
 use Rattle.grammar.specs.Term.{opening}
 use Rattle.parser.specs.Contract.{again}
 use Rattle.parser.proofs.Steps.{took_name}
-use Rattle.parser.proofs.Kit.{kept, revalue, stop, past, both, over}
+use Rattle.parser.proofs.Kit.{revalue, stop, past, both, over}
 use Rattle.parser.proofs.Tokens.{paid, name_fail, word_fail, name_fine, word_fine, weigh_fine}
 use Rattle.grammar.specs.Productions.{gotostat}
 use Rattle.parser.proofs.goto.Goals as goal

@@ -1,6 +1,6 @@
 -- `label` meets its contract.
-use mathlib.Core.Path.{refl, sym, ap, ◌∙◌}
-use Prim.Native.Nat.{◌+◌, ◌-◌}
+use mathlib.Core.Path.{refl, sym, ap}
+use Prim.Native.Nat.{◌+◌}
 use native.Mathlib.Omega.{arith}
 use Rattle.operators.specs.Ranks.{ranks}
 use Rattle.tree.specs.Forest.{none}
@@ -11,7 +11,7 @@ use Rattle.grammar.specs.Productions.{word}
 use Rattle.parser.specs.Contract.{again}
 use Rattle.stream.proofs.Words.{few}
 use Rattle.parser.proofs.Steps.{took_name}
-use Rattle.parser.proofs.Kit.{kept, revalue, stop, past, both, over}
+use Rattle.parser.proofs.Kit.{revalue, stop, past, both, over}
 use Rattle.parser.proofs.Tokens.{paid, name_fail, word_fail, name_fine, word_fine, weigh_fine}
 use Rattle.grammar.specs.Productions.{label}
 use Rattle.parser.proofs.label.Goals as goal

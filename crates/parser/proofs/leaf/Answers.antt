@@ -1,15 +1,14 @@
 -- `leaf` meets its contract.
-use mathlib.Core.Path.{sym, ◌∙◌}
-use Prim.Native.Nat.{◌-◌}
+use mathlib.Core.Path.{sym}
 use native.Mathlib.Omega.{arith}
 use Rattle.operators.specs.Ranks.{ranks}
 use Rattle.tree.specs.Forest.{none}
 use Rattle.grammar.specs.Reading.{read, hold}
 use Rattle.grammar.specs.Levels.{readers}
-use Rattle.grammar.specs.Term.{any, leaf}
+use Rattle.grammar.specs.Term.{any}
 use Rattle.parser.specs.Contract.{again}
 use Rattle.parser.proofs.Steps.{took_next}
-use Rattle.parser.proofs.Kit.{kept, stop}
+use Rattle.parser.proofs.Kit.{stop}
 use Rattle.parser.proofs.Tokens.{any_fail, any_says, leaf_after}
 use Rattle.parser.proofs.leaf.Goals as goal
 

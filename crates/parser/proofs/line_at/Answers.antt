@@ -1,6 +1,5 @@
 -- `line_at` meets its contract.
 use mathlib.Core.Path.{sym}
-use Prim.Native.Nat.{◌-◌}
 use Rattle.stream.proofs.Words.{word_at}
 use Rattle.parser.proofs.line_at.Goals as goal
 

@@ -1,5 +1,4 @@
 -- `manual_reading` meets its contract.
-use Prim.Native.Nat.{◌-◌}
 use Rattle.parser.proofs.manual_reading.Goals as goal
 
 pub returns : goal.returns

@@ -1,6 +1,5 @@
 -- `method_name` meets its contract.
-use mathlib.Core.Path.{sym, ◌∙◌}
-use Prim.Native.Nat.{◌-◌}
+use mathlib.Core.Path.{sym}
 use native.Mathlib.Omega.{arith}
 use Rattle.operators.specs.Ranks.{ranks}
 use Rattle.tree.specs.Forest.{none}
@@ -8,7 +7,7 @@ use Rattle.grammar.specs.Reading.{read, hold}
 use Rattle.grammar.specs.Levels.{readers}
 use Rattle.parser.specs.Contract.{again}
 use Rattle.parser.proofs.Steps.{took_next}
-use Rattle.parser.proofs.Kit.{kept, stop, onward}
+use Rattle.parser.proofs.Kit.{stop, onward}
 use Rattle.parser.proofs.Tokens.{ready_after, any_fail, any_fine}
 use Rattle.parser.proofs.method_name.Goals as goal
 

@@ -1,6 +1,5 @@
 -- `name` meets its contract.
-use mathlib.Core.Path.{refl, sym, ◌∙◌}
-use Prim.Native.Nat.{◌-◌}
+use mathlib.Core.Path.{refl, sym}
 use native.Mathlib.Omega.{arith}
 use Rattle.operators.specs.Ranks.{ranks}
 use Rattle.tree.specs.Forest.{none}
@@ -9,7 +8,7 @@ use Rattle.grammar.specs.Levels.{readers}
 use Rattle.grammar.specs.Productions.{named}
 use Rattle.parser.specs.Contract.{again}
 use Rattle.parser.proofs.Steps.{took_name}
-use Rattle.parser.proofs.Kit.{kept, stop}
+use Rattle.parser.proofs.Kit.{stop}
 use Rattle.parser.proofs.Tokens.{name_fail, name_says, leaf_after}
 use Rattle.parser.proofs.name.Goals as goal
 

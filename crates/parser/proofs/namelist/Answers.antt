@@ -1,12 +1,11 @@
 -- `namelist` meets its contract.
-use mathlib.Core.Path.{ap, ◌∙◌}
-use Prim.Native.Nat.{◌-◌}
+use mathlib.Core.Path.{ap}
 use native.Mathlib.Omega.{arith}
 use Rattle.operators.specs.declared.Ranking.TheVariants.{Crate}
 use Rattle.tree.specs.Forest.{none}
 use Rattle.grammar.specs.Reading.{read, add}
 use Rattle.stream.proofs.Words.{few}
-use Rattle.parser.proofs.Kit.{kept, ready_at, revalue, weighed, stop, past, both}
+use Rattle.parser.proofs.Kit.{ready_at, revalue, weighed, stop, past, both}
 use Rattle.parser.proofs.namelist.Goals as goal
 
 pub name-requires : goal.name-requires

@@ -1,14 +1,13 @@
 -- `parlist` meets its contract.
-use Prim.Native.Nat.{◌-◌}
 use native.Mathlib.Omega.{arith}
 use Rattle.operators.specs.Ranks.{ranks}
 use Rattle.tree.specs.Forest.{none}
-use Rattle.grammar.specs.Reading.{read, hold, last}
+use Rattle.grammar.specs.Reading.{read, hold}
 use Rattle.grammar.specs.Levels.{readers}
 use Rattle.grammar.specs.Term.{empty}
 use Rattle.parser.specs.Contract.{again}
 use Rattle.parser.proofs.Steps.{check_in, check_out, check_place, check_note}
-use Rattle.parser.proofs.Kit.{kept, ready_seen, moved_sum, looked}
+use Rattle.parser.proofs.Kit.{ready_seen, moved_sum, looked}
 use Rattle.grammar.specs.Productions.{parlist}
 use Rattle.parser.proofs.parlist.Goals as goal
 

@@ -1,13 +1,10 @@
 -- `reading` meets its contract.
 use mathlib.Core.Path.{◌≡◌, refl, ap, ◌∙◌, subst}
 use mathlib.Core.Bool.{false}
-use Prim.Native.Nat.{ℕ, ◌*◌, ◌-◌}
+use Prim.Native.Nat.{ℕ, ◌*◌}
 use native.Mathlib.Omega.{arith}
 use Rattle.operators.specs.Ranks.{ranks}
-use Rattle.grammar.specs.Reading.{last}
-use Rattle.parser.specs.Contract.{says}
 use Rattle.stream.proofs.Words.{few}
-use Rattle.parser.proofs.Kit.{kept}
 use Rattle.parser.proofs.Whole.{failed, done, answered_malformed, answered_refused, answered_room, answered_short, noted_malformed, noted_refused, noted_read}
 use Rattle.quarrel.specs.Notes.{NONE, note}
 use lib.ListN.{replicate}

@@ -1,6 +1,6 @@
 -- `stop` meets its contract.
-use mathlib.Core.Path.{refl, sym, ap, ◌∙◌}
-use Prim.Native.Nat.{◌+◌, ◌-◌}
+use mathlib.Core.Path.{refl, sym, ap}
+use Prim.Native.Nat.{◌+◌}
 use native.Mathlib.Omega.{arith}
 use Rattle.operators.specs.Ranks.{ranks}
 use Rattle.tree.specs.Forest.{none}
@@ -8,7 +8,7 @@ use Rattle.grammar.specs.Reading.{read, hold, wrap}
 use Rattle.grammar.specs.Levels.{readers}
 use Rattle.grammar.specs.Term.{opening}
 use Rattle.parser.specs.Contract.{again}
-use Rattle.parser.proofs.Kit.{kept, stop, over}
+use Rattle.parser.proofs.Kit.{over}
 use Rattle.parser.proofs.Tokens.{any_fail, any_fine}
 use Rattle.grammar.specs.Productions.{breakstat}
 use Rattle.parser.proofs.stop.Goals as goal
