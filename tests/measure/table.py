@@ -101,8 +101,8 @@ Bytes of stack, from the call down to the lowest word stored to:
 {table(["form"] + [text for _, text in READERS], [[titles[name]] + [grouped(stack[name, reader]) for reader, _ in READERS] for name in deep])}
 ## How it is counted
 
-`tests/measure` has a program that links all readers, the proved ones from the archive that `rt staticlib` writes. Each stream is read once to warm up
-and once between two marks, no-ops that no compiler makes; Debian's `qemu-user` runs the program, and a plugin of some fifty lines of C
+`tests/measure` has a program that links all readers, the proved ones from the archive that `tests/exported/build` makes. Each stream is read once to
+warm up and once between two marks, no-ops that no compiler makes; Debian's `qemu-user` runs the program, and a plugin of some fifty lines of C
 (`tests/measure/count.c`) counts the instructions executed between the marks and watches how far down the stack is stored to. A repeated string
 instruction counts once for each repetition. The processor is qemu's `qemu64`, so that the C library takes the same `memset` everywhere.
 

@@ -10,7 +10,7 @@ sys.path.insert(0, TOOLS)
 sys.dont_write_bytecode = True
 sys.setrecursionlimit(20000)
 
-# a folder of stand-ins, set by tests/tools; none: the proved programs of target/bin
+# a folder of stand-ins, set by tests/tools; none: the proved programs of crates/*/out
 PROGRAMS = os.environ.get("READ_PROGRAMS") or None
 
 

@@ -1,4 +1,4 @@
-"""How the programs are found, proved first where they are missing, and run: with a toolchain that is made up."""
+"""How the programs are found, proved and built first where they are missing, and run: with a toolchain that is made up."""
 import os
 import shutil
 import stat
@@ -9,16 +9,11 @@ import unittest
 
 from support import TOOLS
 
-KIT = """#!/bin/sh
+RT = """#!/bin/sh
+name=$(basename "$PWD")
 case $1 in
-doc) echo "$(dirname "$0")/../docs/START-HERE.md" ;;
-check) echo "proving $2 $3"; {check} ;;
+run) echo "proving $name" >&2; {run} ;;
 esac
-"""
-LOADER = """#!/bin/sh
-[ "$1" = --library-path ] || exit 9
-shift 2
-exec "$@"
 """
 INTAKE = """#!/bin/sh
 cat >/dev/null
@@ -38,13 +33,14 @@ class Found(unittest.TestCase):
         self.folder = tempfile.mkdtemp()
         self.addCleanup(shutil.rmtree, self.folder)
         shutil.copytree(TOOLS, os.path.join(self.folder, "repo", "tools"))
-        self.bin = os.path.join(self.folder, "repo", "target", "bin")
-        executable(os.path.join(self.folder, "kit", "toolchain", "lib", "ld-linux-x86-64.so.2"), LOADER)
-        emulator = '#!/bin/sh\nexec "$@"\n'
-        executable(os.path.join(self.folder, "kit", "toolchain", "bin", "qemu-x86_64"), emulator)
+        for name in ("intake", "batch"):
+            os.makedirs(os.path.dirname(self.program(name)))
 
-    def kit(self, check):
-        executable(os.path.join(self.folder, "kit", "bin", "rt"), KIT.format(check=check))
+    def program(self, name):
+        return os.path.join(self.folder, "repo", "crates", name, "out", name)
+
+    def kit(self, run):
+        executable(os.path.join(self.folder, "kit", "bin", "rt"), RT.format(run=run))
 
     def read(self, path, text=b""):
         command = [sys.executable, os.path.join(self.folder, "repo", "tools", "read"), "-"]
@@ -62,34 +58,34 @@ class Found(unittest.TestCase):
     def test_programs_are_there(self):
         self.kit("exit 1")
         for name in ("intake", "batch"):
-            executable(os.path.join(self.bin, name), INTAKE)
+            executable(self.program(name), INTAKE)
         self.assertEqual(self.read(self.with_kit()), (0, "standard input: accepted\n", ""))
 
     def test_programs_are_proved_first(self):
         made = os.path.join(self.folder, "made")
         executable(made, INTAKE)
-        self.kit(f"mkdir -p {self.bin} && cp {made} {self.bin}/intake && cp {made} {self.bin}/batch")
+        self.kit(f"cp {made} out/$name")
         status, told, said = self.read(self.with_kit())
         self.assertEqual((status, told), (0, "standard input: accepted\n"))
-        self.assertIn("Everything is being proved first (rt check intake batch): six to fifteen minutes.", said)
-        self.assertIn("proving intake batch", said)
+        self.assertIn("Everything is being proved first (tools/build intake batch), which takes many minutes.", said)
+        self.assertIn("proving intake\nproving batch\n", said)
 
     def test_the_proof_fails(self):
         self.kit("exit 1")
         status, told, said = self.read(self.with_kit())
         self.assertEqual((status, told), (2, ""))
-        self.assertIn("rt check intake batch failed", said)
+        self.assertIn("tools/build intake batch failed", said)
 
     def test_the_proof_leaves_no_program(self):
         self.kit("exit 0")
         status, _, said = self.read(self.with_kit())
         self.assertEqual(status, 2)
-        self.assertIn("rt check left no program intake", said)
+        self.assertIn("tools/build left no program intake", said)
 
     def test_a_program_that_fails(self):
         self.kit("exit 1")
         for name in ("intake", "batch"):
-            executable(os.path.join(self.bin, name), "#!/bin/sh\necho broken >&2\nexit 3\n")
+            executable(self.program(name), "#!/bin/sh\necho broken >&2\nexit 3\n")
         status, told, said = self.read(self.with_kit())
         self.assertEqual((status, told), (2, ""))
         self.assertIn("intake ended with status 3: broken", said)
@@ -97,9 +93,9 @@ class Found(unittest.TestCase):
     def test_programs_that_do_not_fit_together(self):
         """A fault of the command's own is never told as a script that goes back."""
         self.kit("exit 1")
-        executable(os.path.join(self.bin, "intake"), "#!/bin/sh\ncat >/dev/null\necho 00000008 00000001 00000002 00000000 00000000\n")
+        executable(self.program("intake"), "#!/bin/sh\ncat >/dev/null\necho 00000008 00000001 00000002 00000000 00000000\n")
         batch = INTAKE + "echo 00000000 00000000 00000000 00000000 00000004\n"
-        executable(os.path.join(self.bin, "batch"), batch + batch.split("\n", 2)[2])
+        executable(self.program("batch"), batch + batch.split("\n", 2)[2])
         status, told, said = self.read(self.with_kit(), b"return a ~= b + c")
         self.assertEqual((status, told), (2, ""))
         self.assertIn("a fault of this command, and says nothing of the script", said)

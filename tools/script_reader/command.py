@@ -10,7 +10,7 @@ CANNOT_RUN = 2
 ABOUT = """Reads Lua scripts as the floor's terminal and as the office read them, and says whether both read them alike.
 
 The verdict is that of the proved program `intake`, and the two readings of a quarrel are those of the proved program `batch`
-(run from target/bin; where they are missing, everything is proved and built first). This command itself is outside the
+(run from crates/*/out; where they are missing, everything is proved and built first). This command itself is outside the
 proved core: its lexer, which turns the text into tokens, and the words in which it tells the answer are ordinary Python."""
 AFTER = """exit status: 0 every script is accepted; 1 at least one goes back; 2 at least one could not be read (no such file, a
 folder, no program, a script that is too large for the program)."""
@@ -22,7 +22,7 @@ def arguments(words):
     )
     parser.add_argument("files", metavar="FILE", nargs="+", help="a Lua script; - for standard input")
     parser.add_argument("--tree", action="store_true", help="print the tree of each script that is accepted")
-    parser.add_argument("--programs", metavar="DIR", help="run DIR/intake and DIR/batch as they are, instead of those in target/bin")
+    parser.add_argument("--programs", metavar="DIR", help="run DIR/intake and DIR/batch as they are, instead of those in crates/*/out")
     return parser.parse_args(words)
 
 

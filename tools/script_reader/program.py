@@ -45,7 +45,7 @@ class Programs:
     """The two programs, found at first use; proved and built first where they are missing."""
 
     def __init__(self, folder=None):
-        self.folder, self.before = folder, None
+        self.folder, self.is_ready = folder, False
 
     def intake(self, lines):
         """The agreed reading of one stream."""
@@ -65,43 +65,44 @@ class Programs:
         return [(found[i], found[i + 1]) for i in range(0, len(found), each)]
 
     def run(self, name, text):
-        if self.before is None:
-            self.before = self.prepared()
-        command = [self.before, name] if self.before else [os.path.join(self.folder, name)]
+        if not self.is_ready:
+            self.prepare()
+            self.is_ready = True
         try:
-            ended = subprocess.run(command, input=text.encode(), stdout=subprocess.PIPE, stderr=subprocess.PIPE)
+            ended = subprocess.run([self.file(name)], input=text.encode(), stdout=subprocess.PIPE, stderr=subprocess.PIPE)
         except OSError as error:
             raise NoProgram(f"{name} could not be started: {error.strerror}") from error
         if ended.returncode != 0:
             raise CannotRun(f"{name} ended with status {ended.returncode}: {ended.stderr.decode(errors='replace').strip()}")
         return ended.stdout.decode("ascii", "replace")
 
-    def prepared(self):
-        """The command that runs a program of target/bin, none for another folder's; raises CannotRun where there is no program."""
-        if self.folder is not None:
-            missing = self.missing()
-            if missing:
-                raise NoProgram(f"{self.folder} has no program {missing[0]}")
-            return ""
-        self.folder = os.path.join(ROOT, "target", "bin")
-        rt = shutil.which("rt")
-        if rt is None:
-            raise NoProgram("the Rattle toolchain (rt) is missing, and the proved programs need it to be built and run")
-        if self.missing():
-            prove(rt)
-            if self.missing():
-                raise NoProgram(f"rt check left no program {self.missing()[0]} in target/bin")
-        return os.path.join(ROOT, "tools", "program")
+    def file(self, name):
+        """Where a program lies: where `rt run` builds it, or in the folder that was given."""
+        return os.path.join(ROOT, "crates", name, "out", name) if self.folder is None else os.path.join(self.folder, name)
 
     def missing(self):
-        return [name for name in ("intake", "batch") if not os.path.isfile(os.path.join(self.folder, name))]
+        return [name for name in ("intake", "batch") if not os.path.isfile(self.file(name))]
+
+    def prepare(self):
+        """Has the programs proved and built where they are missing; raises NoProgram where there is none then."""
+        missing = self.missing()
+        if not missing:
+            return
+        if self.folder is not None:
+            raise NoProgram(f"{self.folder} has no program {missing[0]}")
+        if shutil.which("rt") is None:
+            raise NoProgram("the Rattle toolchain (rt) is missing, and the proved programs need it to be built")
+        prove()
+        if self.missing():
+            raise NoProgram(f"tools/build left no program {self.missing()[0]} in crates/*/out")
 
 
-def prove(rt):
+def prove():
     print(
-        "The proved programs are not built yet. Everything is being proved first (rt check intake batch): six to fifteen minutes.",
+        "The proved programs are not built yet. Everything is being proved first (tools/build intake batch), which takes many minutes.",
         file=sys.stderr,
         flush=True,
     )
-    if subprocess.run([rt, "check", "intake", "batch"], cwd=ROOT, stdin=subprocess.DEVNULL, stdout=sys.stderr).returncode != 0:
-        raise NoProgram("rt check intake batch failed, so there is no proved program to run")
+    build = [os.path.join(ROOT, "tools", "build"), "intake", "batch"]
+    if subprocess.run(build, stdin=subprocess.DEVNULL, stdout=sys.stderr).returncode != 0:
+        raise NoProgram("tools/build intake batch failed, so there is no proved program to run")
