@@ -1,0 +1,15 @@
+-- The five numbers as text, or the bytes that they need.
+use Rattle.std.proofs.Common.{arith}
+use Rattle.script.specs.Answers.{five}
+use Rattle.script.proofs.Written.{length_answer, put, put_none}
+use Rattle.script.proofs.put_answer.Goals as goal
+
+pub returns-then-out-lt-ANSWER : goal.returns-then-out-lt-ANSWER
+returns-then-out-lt-ANSWER c =
+    let a = c.args.a in
+    put_none (five a) c.args.out.now 45 (length_answer a.number a.line a.found a.expected a.count) (omega arith)
+
+pub returns : goal.returns
+returns c =
+    let a = c.args.a in
+    put (five a) c.args.out.now 45 (length_answer a.number a.line a.found a.expected a.count) (omega arith) c.write_answer.ensures
