@@ -2,9 +2,12 @@
 //
 // A line of standard input is a record in the form of 01's program, and a stream ends with its record of kind 3b. For each stream come
 // the crate, the manual and the agreed reading: the tree, a record a line, where there is one, and the five numbers of the answer.
+//
+// A read or a write that fails ends the program with its error, handed on as it came: no function makes another. The lent arrays keep
+// their length then, and hold what was stored by that time.
 #![tactic(auto)]
 
-ghost use Rattle.std.specs.Prelude.{◌+◌, ◌*◌, ◌≤◌, ◌<◌, ◌≡◌, IfOk, length, take};
+ghost use Rattle.std.specs.Prelude.{◌+◌, ◌*◌, ◌≤◌, ◌<◌, ◌≡◌, IfOk, OnErr, length, take};
 ghost use Rattle.std.specs.Io.KnownBytes.{Consumes, IsAtEnd};
 
 use lines::{LINE, Lines};
@@ -141,7 +144,8 @@ fn take_line(
     at: usize,
 ) -> io::Result<usize>
     requires { (length stream.old ≡ 4100) × (records ≤ 1025) × (at + 38 ≤ length text.now) }
-    ensures { IfOk result (λ n. n ≤ 1025) }
+    ensures ok { IfOk result (λ n. n ≤ 1025) }
+    ensures err { OnErr result (length stream.new ≡ length stream.old) }
 {
     let mut record = [0u64; 4];
     let end = at + LINE;
@@ -177,7 +181,8 @@ fn take_lines(
     n: usize,
 ) -> io::Result<usize>
     requires { (length stream.old ≡ 4100) × (records ≤ 1025) × (n ≤ length text.now) }
-    ensures { IfOk result (λ n. n ≤ 1025) }
+    ensures ok { IfOk result (λ n. n ≤ 1025) }
+    ensures err { OnErr result (length stream.new ≡ length stream.old) }
 {
     let mut r = records;
     let mut left = n;
@@ -199,6 +204,7 @@ fn read_full<R: Read>(input: &mut R, buf: &mut [u8]) -> io::Result<usize>
     ensures within { IfOk result (λ n. n ≤ length buf.new) }
     ensures bytes { IfOk result (λ n. Consumes (R.remaining input.old) (R.remaining input.new) (take n buf.new)) }
     ensures end { IfOk result (λ n. n < length buf.new → IsAtEnd (R.remaining input.new)) }
+    ensures err { OnErr result (length buf.new ≡ length buf.old) }
 {
     let mut n = 0;
     while n < buf.len() {

@@ -84,8 +84,8 @@ fn of(left: u64, right: u64) -> Priority
     Priority { left, right }
 }
 
-#[tactic(auto, unfolding(crate::specs::Ranks::find))]
 // The left and right priority of the binary operator that a token of this kind is; 0 where it is none.
+#[tactic(auto, unfolding(crate::specs::Ranks::find))]
 pub fn binary_priority(ranking: Ranking, kind: u64) -> Priority
     ensures { result ≡ priority (ranks ranking) kind }
 {

@@ -129,6 +129,7 @@ pub fn read_ahead(stream: &[u64], c: Cursor, n: u8) -> Cursor
 }
 
 // The line that the reading has come to.
+#[tactic(auto, using(crate::proofs::Steps::told_at, crate::proofs::Steps::told_past))]
 pub fn reading_line(stream: &[u64], c: Cursor) -> u64
     ensures { result ≡ told stream.now c.mark }
 {
