@@ -67,7 +67,7 @@ class Found(unittest.TestCase):
         self.kit(f"cp {made} out/$name")
         status, told, said = self.read(self.with_kit())
         self.assertEqual((status, told), (0, "standard input: accepted\n"))
-        self.assertIn("Everything is being proved first (tools/build intake batch), which takes many minutes.", said)
+        self.assertIn("Everything is being proved first (tools/build intake batch): six to fifteen minutes.", said)
         self.assertIn("proving intake\nproving batch\n", said)
 
     def test_the_proof_fails(self):

@@ -99,7 +99,7 @@ class Programs:
 
 def prove():
     print(
-        "The proved programs are not built yet. Everything is being proved first (tools/build intake batch), which takes many minutes.",
+        "The proved programs are not built yet. Everything is being proved first (tools/build intake batch): six to fifteen minutes.",
         file=sys.stderr,
         flush=True,
     )
