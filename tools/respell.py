@@ -14,7 +14,7 @@ import sys
 sys.dont_write_bytecode = True
 
 # A character of a name in antt.
-LETTER = r"[^\s(){}.;,@\"«»:\[\]|]"
+LETTER = r"[^\s(){}.;,@\"«»:\[\]|`]"
 # Names whose plain spelling another definition or a function has already.
 APART = {"at-end": "only_at_end", "put-answer": "put_answer_lem", "put-tree": "put_tree_lem"}
 # Names that may be spelled as another: a definition that says what the function of that name answers; a field in another file.

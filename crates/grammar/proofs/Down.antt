@@ -1,5 +1,5 @@
--- What the terms derive, the grammar of section 9 derives: one lemma `from-..` a production, up to `from-expression` and
--- `from-statement`. Assumes of the phrases one level down what Lower says, and of the ranking that its operators are section 9's.
+-- What the terms derive, the grammar of section 9 derives: one lemma `from_..` a production, up to `from_expression` and
+-- `from_statement`. Assumes of the phrases one level down what Lower says, and of the ranking that its operators are section 9's.
 use mathlib.Core.Path.{◌≡◌, refl, sym, ap, ◌∙◌, subst}
 use mathlib.Core.List.{List, [], ◌∷◌}
 use mathlib.Core.Bool.{true}

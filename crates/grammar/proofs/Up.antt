@@ -1,6 +1,6 @@
--- What the grammar of section 9 derives, the terms derive: one lemma `to-..` a nonterminal, up to `to-expression` and `to-stat`.
--- Besides, what begins an exp and a stat (`exp-first'`, `stat-first'`), and that an exp that begins with a name that `=` follows
--- is that name (`name-exp'`). Assumes of the phrases one level down what Lower says, and nothing else.
+-- What the grammar of section 9 derives, the terms derive: one lemma `to_..` a nonterminal, up to `to_expression` and `to_stat`.
+-- Besides, what begins an exp and a stat (`exp_first'`, `stat_first'`), and that an exp that begins with a name that `=` follows
+-- is that name (`name_exp'`). Assumes of the phrases one level down what Lower says, and nothing else.
 use mathlib.Core.Path.{◌≡◌, refl, sym, ap, ◌∙◌, subst, subst₂}
 use mathlib.Core.List.{List, [], ◌∷◌}
 use mathlib.Core.Bool.{Bool, true, false}
