@@ -1,12 +1,11 @@
 -- The contract of `judge` leaves one answer, and there always is one. Assumes nothing.
-use Rattle.std.proofs.Common.{◌≡◌, ℕ, zero, suc, ◌<◌, ◌≤◌, Bool, true, false, ◌⊎◌, List, sym, refl, ap, ◌∙◌, subst, inl, inr, arith}
+use Rattle.std.proofs.Common.{◌≡◌, ℕ, zero, suc, ◌<◌, ◌≤◌, Bool, true, false, ◌⊎◌, List, sym, refl, ap, ◌∙◌, subst, inl, inr, Result, Ok, Err, arith}
 use mathlib.Core.Bool.{false≢true}
 use mathlib.Core.Logic.{by_cases}
 use native.Mathlib.Decide.{dec_lt}
 use Rattle.stream.specs.Words.{records}
 use Rattle.stream.specs.Formed.{good, sized, Formed, Malformed, bad_length, bad_record, Judged}
-use Rattle.stream.specs.declared.form.Form.{Form}
-use Rattle.stream.specs.declared.form.Form.TheVariants.{Well, Bad}
+use Rattle.stream.specs.declared.form.BadRecord.{BadRecord}
 
 pub formed_not_malformed : {s : List ℕ} {p : ℕ} → Formed s → Malformed s p → ⊥
 formed_not_malformed f (bad_length n) = false≢true (sym n ∙ f.size)
@@ -20,11 +19,11 @@ malformed_once (bad_record {p} y b l n) (bad_record {p = q} z d k m) =
     by_cases (dec_lt p q) (λ h. absurd (false≢true (sym n ∙ d p h)))
     (λ g. by_cases (dec_lt q p) (λ h. absurd (false≢true (sym m ∙ b q h))) (λ h. omega arith))
 
-pub decides : (s : List ℕ) (a b : Form) → Judged s a → Judged s b → a ≡ b
-decides s Well Well f g = refl
-decides s Well (Bad q) f g = absurd (formed_not_malformed f g)
-decides s (Bad p) Well f g = absurd (formed_not_malformed g f)
-decides s (Bad p) (Bad q) f g = ap Bad (malformed_once f g)
+pub decides : (s : List ℕ) (a b : Result Unit BadRecord) → Judged s a → Judged s b → a ≡ b
+decides s (Ok a) (Ok b) f g = refl
+decides s (Ok a) (Err e) f g = absurd (formed_not_malformed f g)
+decides s (Err e) (Ok b) f g = absurd (formed_not_malformed g f)
+decides s (Err e) (Err f) m n = ap (λ (p : ℕ). Err (record { index = p })) (malformed_once m n)
 
 -- record by record: so many are good, or one of them is the first that is not
 up_to : (s : List ℕ) → sized s ≡ true → (n : ℕ) → n ≤ records s → ((q : ℕ) → q < n → good s q ≡ true) ⊎ ((p : ℕ) × Malformed s p)

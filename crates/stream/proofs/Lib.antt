@@ -1,5 +1,4 @@
--- What is proved of streams and of reading them, for the readers above; Steps is for this crate's own proofs.
+-- What is proved of streams and of reading them, for the readers above.
 pub mod Words
 pub mod Judged
 pub mod Reading
-mod Steps

@@ -1,9 +1,8 @@
 -- Which streams are well formed; what refusal 6 tells of any other. Assumes nothing: these are definitions.
-use Rattle.std.specs.Prelude.{◌≡◌, ℕ, ◌+◌, ◌*◌, ◌%◌, ◌<◌, Bool, true, false, not, ◌&&◌, ◌||◌, List, length, ◌==◌, nat_le, nat_lt}
+use Rattle.std.specs.Prelude.{◌≡◌, ℕ, ◌+◌, ◌*◌, ◌%◌, ◌<◌, Bool, true, false, not, ◌&&◌, ◌||◌, List, length, ◌==◌, nat_le, nat_lt, Result, Ok, Err}
 use Rattle.stream.specs.Kinds.{Integer, Float, String, Name, EndOfStream}
 use Rattle.stream.specs.Words.{records, kind, payload, line, after}
-use Rattle.stream.specs.declared.form.Form.{Form}
-use Rattle.stream.specs.declared.form.Form.TheVariants.{Well, Bad}
+use Rattle.stream.specs.declared.form.BadRecord.{BadRecord}
 
 -- the most that a line or an id may be, and the most tokens
 abbrev pub most : ℕ
@@ -44,6 +43,6 @@ pub data Malformed (s : List ℕ) : ℕ → Type 0 where
   bad_length : sized s ≡ false → Malformed s 0
   bad_record : {p : ℕ} → sized s ≡ true → ((q : ℕ) → q < p → good s q ≡ true) → p < records s → good s p ≡ false → Malformed s p
 
-abbrev pub Judged : List ℕ → Form → Type 0
-Judged s Well = Formed s
-Judged s (Bad p) = Malformed s p
+abbrev pub Judged : List ℕ → Result Unit BadRecord → Type 0
+Judged s (Ok _) = Formed s
+Judged s (Err e) = Malformed s e.index

@@ -2,12 +2,12 @@
 ghost use Rattle.std.specs.Prelude.{◌≡◌};
 ghost use Rattle.stream.specs.Formed.{token_words, end_words, Judged};
 
-use crate::kinds::{END_OF_STREAM, FLOAT, INTEGER};
+use crate::kinds::{END_OF_STREAM, FLOAT, INTEGER, NAME, STRING};
 
+// Where a stream is not well formed: at its first bad record, or at its start for a bad length.
 #[derive(Clone, Copy)]
-pub enum Form {
-    Well,
-    Bad(usize),
+pub struct BadRecord {
+    pub index: usize,
 }
 
 // The most that a line or an id may be.
@@ -19,65 +19,37 @@ const WORDS: usize = 4194308;
 fn is_token(kind: u64, payload: u64, line: u64, after: u64) -> bool
     ensures { result ≡ token_words kind payload line after }
 {
-    if MOST < line {
-        return false;
-    }
-    if MOST < after {
-        return false;
-    }
-    if kind < INTEGER {
-        return payload == 0;
-    }
-    if kind <= FLOAT {
-        return true;
-    }
-    if kind < END_OF_STREAM {
-        return payload <= MOST;
-    }
-    false
+    let pays = match kind {
+        INTEGER | FLOAT => true,
+        STRING | NAME => payload <= MOST,
+        _ => payload == 0,
+    };
+    kind < END_OF_STREAM && pays && line <= MOST && after <= MOST
 }
 
 fn is_end(kind: u64, payload: u64, line: u64, after: u64) -> bool
     ensures { result ≡ end_words kind payload line after }
 {
-    if kind != END_OF_STREAM {
-        return false;
-    }
-    if payload != 0 {
-        return false;
-    }
-    if MOST < line {
-        return false;
-    }
-    line == after
+    kind == END_OF_STREAM && payload == 0 && line <= MOST && line == after
 }
 
-pub fn judge(stream: &[u64]) -> Form
+pub fn judge(stream: &[u64]) -> Result<(), BadRecord>
     ensures { Judged stream.now result }
 {
     let n = stream.len();
-    if n == 0 {
-        return Form::Bad(0);
-    }
-    if n % 4 != 0 {
-        return Form::Bad(0);
-    }
-    if WORDS < n {
-        return Form::Bad(0);
+    if n == 0 || n % 4 != 0 || WORDS < n {
+        return Err(BadRecord { index: 0 });
     }
     let last = n / 4 - 1;
-    let mut i = 0;
-    while i < last {
-        let at = i * 4;
+    for index in 0..last {
+        let at = index * 4;
         if !is_token(stream[at], stream[at + 1], stream[at + 2], stream[at + 3]) {
-            return Form::Bad(i);
+            return Err(BadRecord { index });
         }
-        i += 1;
     }
     let at = last * 4;
-    if is_end(stream[at], stream[at + 1], stream[at + 2], stream[at + 3]) {
-        Form::Well
-    } else {
-        Form::Bad(last)
+    if !is_end(stream[at], stream[at + 1], stream[at + 2], stream[at + 3]) {
+        return Err(BadRecord { index: last });
     }
+    Ok(())
 }

@@ -4,3 +4,4 @@
 pub mod form;
 pub mod kinds;
 pub mod reader;
+pub mod refusals;

@@ -1,15 +1,16 @@
-// 000's reader over a lent stream, with the cursor by value.
-ghost use Rattle.std.specs.Prelude.{◌≡◌, ◌+◌, ◌<◌, max};
-ghost use Rattle.stream.specs.Words.{kind};
-ghost use Rattle.stream.specs.Reader.{token_at, reached, read_ahead, told, ended, get_next, take_next, expect_next, expect_name, look_ahead, check_ahead};
+// 000's reader over a lent stream: a cursor that moves over it.
+ghost use Rattle.std.specs.Prelude.{◌≡◌, ◌+◌, ◌<◌, length, IfOk};
+ghost use Rattle.stream.specs.Reader.{token_at, asked, read_ahead, told, ended, unexpected, next, get_next, take_next, expect_next, expect_name, look_ahead, check_ahead};
+ghost use Rattle.stream.specs.Refusals.{fault_number};
 
 use crate::kinds::{END_OF_STREAM, NAME};
+use crate::refusals::{Expected, Fault};
 
 // What a user of the cursor notes on the way: the reader's functions hand it on and never look at it.
 #[derive(Clone, Copy)]
 pub struct Note {
-    pub waits: usize,
-    pub found: usize,
+    pub waits: Option<usize>,
+    pub found: Option<usize>,
     pub heard: bool,
 }
 
@@ -37,27 +38,34 @@ pub struct Refusal {
     pub expected: u64,
 }
 
-// A token, or why there is none.
-#[derive(Clone, Copy)]
-pub enum Next {
-    Took(Token, Cursor),
-    Fail(Refusal),
-}
+impl Refusal {
+    // A token stands where another is expected.
+    pub fn unexpected(line: u64, found: usize, expected: u64) -> Refusal
+        ensures { result ≡ unexpected line found expected }
+    {
+        Refusal {
+            number: Fault::Unexpected.number(),
+            line,
+            found,
+            expected,
+        }
+    }
 
-// A token, or the end.
-#[derive(Clone, Copy)]
-pub enum Look {
-    Seen(Token, Cursor),
-    End(Cursor),
-}
-
-#[derive(Clone, Copy)]
-pub struct Check {
-    pub found: bool,
-    pub cursor: Cursor,
+    // A fault that is told by its line alone.
+    pub fn at_line(fault: Fault, line: u64) -> Refusal
+        ensures { result ≡ record { number = fault_number fault; line = line; found = 0; expected = 0 } }
+    {
+        Refusal {
+            number: fault.number(),
+            line,
+            found: 0,
+            expected: 0,
+        }
+    }
 }
 
 // The token at a place; past the last record a stream is at its end.
+#[tactic(auto, unfolding(crate::specs::Words::word))]
 fn token_at(stream: &[u64], place: usize) -> Token
     ensures { result ≡ token_at stream.now place }
 {
@@ -78,204 +86,144 @@ fn token_at(stream: &[u64], place: usize) -> Token
 }
 
 // The token so many places on.
+#[tactic(auto, unfolding(crate::specs::Words::word))]
 fn token_after(stream: &[u64], place: usize, n: u8) -> Token
     ensures { result ≡ token_at stream.now (place + n) }
 {
     if place < stream.len() / 4 {
-        token_at(stream, place + n as usize)
+        token_at(stream, place + usize::from(n))
     } else {
         token_at(stream, place)
     }
 }
 
-// The cursor, once so many tokens were asked for: the mark goes as far as there are records.
-fn reach(stream: &[u64], c: Cursor, many: usize) -> Cursor
-    requires { many < 4096 }
-    ensures { (result.place ≡ c.place) × (result.mark ≡ reached stream.now c.mark c.place many) × (result.note ≡ c.note) }
-{
-    let place = c.place;
-    let records = stream.len() / 4;
-    if records <= place {
-        return further(c, records);
-    }
-    let far = place + many;
-    if records <= far {
-        further(c, records)
-    } else {
-        further(c, far)
-    }
-}
-
-fn further(c: Cursor, to: usize) -> Cursor
-    ensures { (result.place ≡ c.place) × (result.mark ≡ max c.mark to) × (result.note ≡ c.note) }
-{
-    let note = c.note;
-    if c.mark < to {
-        Cursor {
-            place: c.place,
-            mark: to,
-            note,
+impl Cursor {
+    // So many tokens are asked for: the mark goes as far as there are records.
+    fn ask(&mut self, stream: &[u64], many: usize)
+        requires { many < 4096 }
+        ensures { self.new ≡ asked stream.now self.old many }
+    {
+        let records = stream.len() / 4;
+        let mut to = records;
+        if self.place < records {
+            to = records.min(self.place + many);
         }
-    } else {
-        c
+        self.mark = self.mark.max(to);
     }
-}
 
-// Holds n + 1 tokens, if there are so many.
-pub fn read_ahead(stream: &[u64], c: Cursor, n: u8) -> Cursor
-    ensures { result ≡ read_ahead stream.now c n }
-{
-    reach(stream, c, n as usize + 1)
-}
+    // Holds n + 1 tokens, if there are so many.
+    pub fn read_ahead(&mut self, stream: &[u64], n: u8)
+        ensures { self.new ≡ read_ahead stream.now self.old n }
+    {
+        self.ask(stream, usize::from(n) + 1);
+    }
 
-// The line that the reading has come to.
-#[tactic(auto, using(crate::proofs::Steps::told_at, crate::proofs::Steps::told_past))]
-pub fn reading_line(stream: &[u64], c: Cursor) -> u64
-    ensures { result ≡ told stream.now c.mark }
-{
-    let mark = c.mark;
-    let mut p = mark;
-    if 0 < mark {
-        p = mark - 1;
+    // The line that the reading has come to.
+    #[tactic(auto, unfolding(crate::specs::Words::word))]
+    pub fn reading_line(&self, stream: &[u64]) -> u64
+        ensures { result ≡ told stream.now self.now.mark }
+    {
+        let last = self.mark.saturating_sub(1);
+        if last < stream.len() / 4 {
+            stream[last * 4 + 3]
+        } else {
+            0
+        }
     }
-    if p < stream.len() / 4 {
-        stream[p * 4 + 3]
-    } else {
-        0
-    }
-}
 
-fn end_of_stream(stream: &[u64], c: Cursor, expected: u64) -> Refusal
-    ensures { result ≡ ended stream.now c expected }
-{
-    Refusal {
-        number: 2,
-        line: reading_line(stream, c),
-        found: 0,
-        expected,
-    }
-}
-
-// The next token, not yet taken.
-pub fn get_next(stream: &[u64], c: Cursor) -> Next
-    ensures { result ≡ get_next stream.now c }
-{
-    let d = read_ahead(stream, c, 1);
-    let t = token_at(stream, c.place);
-    if t.kind == END_OF_STREAM {
-        Next::Fail(end_of_stream(stream, d, 0))
-    } else {
-        Next::Took(t, d)
-    }
-}
-
-// The next token, taken.
-pub fn take_next(stream: &[u64], c: Cursor) -> Next
-    ensures { result ≡ take_next stream.now c }
-{
-    let d = read_ahead(stream, c, 1);
-    let t = token_at(stream, c.place);
-    if t.kind == END_OF_STREAM {
-        return Next::Fail(end_of_stream(stream, d, 0));
-    }
-    let note = d.note;
-    Next::Took(
-        t,
-        Cursor {
-            place: d.place + 1,
-            mark: d.mark,
-            note,
-        },
-    )
-}
-
-// The next token, taken; it must be of this kind.
-pub fn expect_next(stream: &[u64], c: Cursor, kind: u64) -> Next
-    ensures { result ≡ expect_next stream.now c kind }
-{
-    let d = read_ahead(stream, c, 1);
-    let t = token_at(stream, c.place);
-    let expected = std::num::wrapping_add_u64(kind, 1);
-    if t.kind == END_OF_STREAM {
-        return Next::Fail(end_of_stream(stream, d, expected));
-    }
-    if t.kind == kind {
-        let note = d.note;
-        Next::Took(
-            t,
-            Cursor {
-                place: d.place + 1,
-                mark: d.mark,
-                note,
-            },
-        )
-    } else {
-        Next::Fail(Refusal {
-            number: 1,
-            line: t.line,
-            found: c.place,
+    fn end_of_stream(&self, stream: &[u64], expected: u64) -> Refusal
+        ensures { result ≡ ended stream.now self.now expected }
+    {
+        Refusal {
+            number: Fault::EndOfStream.number(),
+            line: self.reading_line(stream),
+            found: 0,
             expected,
-        })
-    }
-}
-
-// The next token, taken; it must be a name. Where it is not, the reading line is told and not the token's.
-pub fn expect_name(stream: &[u64], c: Cursor) -> Next
-    ensures { result ≡ expect_name stream.now c }
-{
-    let d = read_ahead(stream, c, 1);
-    let t = token_at(stream, c.place);
-    if t.kind == END_OF_STREAM {
-        return Next::Fail(end_of_stream(stream, d, 60));
-    }
-    if t.kind == NAME {
-        let note = d.note;
-        Next::Took(
-            t,
-            Cursor {
-                place: d.place + 1,
-                mark: d.mark,
-                note,
-            },
-        )
-    } else {
-        Next::Fail(Refusal {
-            number: 1,
-            line: reading_line(stream, d),
-            found: c.place,
-            expected: 60,
-        })
-    }
-}
-
-// The nth token ahead, or the end.
-pub fn look_ahead(stream: &[u64], c: Cursor, n: u8) -> Look
-    ensures { result ≡ look_ahead stream.now c n }
-{
-    let d = reach(stream, c, n as usize + 2);
-    let t = token_after(stream, c.place, n);
-    if t.kind == END_OF_STREAM {
-        Look::End(d)
-    } else {
-        Look::Seen(t, d)
-    }
-}
-
-// Whether the nth token ahead is of this kind.
-pub fn check_ahead(stream: &[u64], c: Cursor, n: u8, kind: u64) -> Check
-    ensures { result ≡ check_ahead stream.now c n kind }
-{
-    let d = read_ahead(stream, c, n);
-    let t = token_after(stream, c.place, n);
-    if t.kind == END_OF_STREAM {
-        Check {
-            found: false,
-            cursor: d,
         }
-    } else {
-        Check {
-            found: t.kind == kind,
-            cursor: d,
+    }
+
+    // The next token, which must be there, not yet taken.
+    #[tactic(auto, using(crate::proofs::Words::inside))]
+    fn next(&mut self, stream: &[u64], expected: u64) -> Result<Token, Refusal>
+        ensures step { (result, self.new) ≡ next stream.now self.old expected }
+        ensures within { IfOk result (λ _. self.new.place < length stream.now) }
+    {
+        self.read_ahead(stream, 1);
+        let token = token_at(stream, self.place);
+        if token.kind == END_OF_STREAM {
+            return Err(self.end_of_stream(stream, expected));
         }
+        Ok(token)
+    }
+
+    // The next token, not yet taken.
+    #[tactic(auto, unfolding(crate::specs::Reader::get_next))]
+    pub fn get_next(&mut self, stream: &[u64]) -> Result<Token, Refusal>
+        ensures { (result, self.new) ≡ get_next stream.now self.old }
+    {
+        self.next(stream, 0)
+    }
+
+    // The next token, taken.
+    #[tactic(auto, unfolding(crate::specs::Reader::take_next))]
+    pub fn take_next(&mut self, stream: &[u64]) -> Result<Token, Refusal>
+        ensures { (result, self.new) ≡ take_next stream.now self.old }
+    {
+        let token = self.next(stream, 0)?;
+        self.place += 1;
+        Ok(token)
+    }
+
+    // The next token, taken; it must be of this kind.
+    #[tactic(auto, unfolding(crate::specs::Reader::expect_next))]
+    pub fn expect_next(&mut self, stream: &[u64], kind: u64) -> Result<Token, Refusal>
+        ensures { (result, self.new) ≡ expect_next stream.now self.old kind }
+    {
+        let expected = kind.wrapping_add(1);
+        let token = self.next(stream, expected)?;
+        if token.kind != kind {
+            return Err(Refusal::unexpected(token.line, self.place, expected));
+        }
+        self.place += 1;
+        Ok(token)
+    }
+
+    // The next token, taken; it must be a name. Where it is not, the reading line is told and not the token's.
+    #[tactic(auto, unfolding(crate::specs::Reader::expect_name))]
+    pub fn expect_name(&mut self, stream: &[u64]) -> Result<Token, Refusal>
+        ensures { (result, self.new) ≡ expect_name stream.now self.old }
+    {
+        let expected = Expected::Name.code();
+        let token = self.next(stream, expected)?;
+        if token.kind != NAME {
+            let line = self.reading_line(stream);
+            return Err(Refusal::unexpected(line, self.place, expected));
+        }
+        self.place += 1;
+        Ok(token)
+    }
+
+    // The nth token ahead, or none at the end.
+    #[tactic(auto, unfolding(crate::specs::Reader::look_ahead))]
+    pub fn look_ahead(&mut self, stream: &[u64], n: u8) -> Option<Token>
+        ensures { (result, self.new) ≡ look_ahead stream.now self.old n }
+    {
+        self.ask(stream, usize::from(n) + 2);
+        let token = token_after(stream, self.place, n);
+        if token.kind == END_OF_STREAM {
+            None
+        } else {
+            Some(token)
+        }
+    }
+
+    // Whether the nth token ahead is of this kind.
+    #[tactic(auto, unfolding(crate::specs::Reader::check_ahead))]
+    pub fn check_ahead(&mut self, stream: &[u64], n: u8, kind: u64) -> bool
+        ensures { (result, self.new) ≡ check_ahead stream.now self.old n kind }
+    {
+        self.read_ahead(stream, n);
+        let token = token_after(stream, self.place, n);
+        token.kind != END_OF_STREAM && token.kind == kind
     }
 }
