@@ -1,12 +1,12 @@
 -- What `token_after` comes to, by the tokens' places: the token at n, where no end stands before it, and the line two tokens on; past the first end, what the end itself gives. Assumes nothing.
 use mathlib.Core.Path.{◌≡◌, refl, sym, ap, subst, ◌∙◌}
 use mathlib.Core.List.{List}
+use Rattle.std.proofs.Common.{Some, None}
 use Prim.Native.Nat.{ℕ, zero, suc, ◌+◌, ◌-◌, ◌<◌, ◌≤◌, min}
 use native.Mathlib.Omega.{arith}
 use Rattle.stream.specs.Words.{records, kind}
 use Rattle.stream.specs.Reader.{token_at, read_ahead, told, at_end, look_ahead}
 use Rattle.stream.specs.declared.reader.Cursor.{Cursor}
-use Rattle.stream.specs.declared.reader.Look.TheVariants.{Seen, End}
 use Rattle.stream.proofs.Reading.{look_end}
 use Rattle.tokens.specs.Steps.{start, stepped, steps, token_after}
 use Rattle.tokens.proofs.Steps.{step_end, step_token}
@@ -40,14 +40,14 @@ near_read s p c k = let m : (read_ahead s c 1).mark ≡ (there s p).mark = omega
 near : (s : List ℕ) (n : ℕ) → Tokens s n → Near s n (steps s start n)
 near s n t = let e : 0 + n ≡ n = omega arith in subst (λ m. Near s m (steps s start n)) e (near_steps s n 0 start (refl, omega arith, refl) (λ i l. t i (omega arith)))
 
-pub nth : (s : List ℕ) (n : ℕ) → Tokens s n → token_after s n ≡ record { look = at_end s n (End (there s n)) (Seen (token_at s n) (there s n)); line = told s (min (n + 2) (records s)) }
+pub nth : (s : List ℕ) (n : ℕ) → Tokens s n → token_after s n ≡ record { look = at_end s n None (Some (token_at s n)); line = told s (min (n + 2) (records s)) }
 unfolding look_ahead
 nth s n t =
     let k = near s n t in
     let c = steps s start n in
     let p : c.place + 0 ≡ n = omega (arith, k.0) in
     let r = near_read s n c k in
-    λ i. record { look = at_end s (p i) (End (r i)) (Seen (token_at s (p i)) (r i)); line = told s (r i).mark }
+    λ i. record { look = at_end s (p i) None (Some (token_at s (p i))); line = told s (r i).mark }
 
 -- a cursor at the end
 abbrev Last : List ℕ → ℕ → Cursor → Type 0
@@ -64,7 +64,7 @@ steps_add : (s : List ℕ) (m k : ℕ) (c : Cursor) → steps s c (m + k) ≡ st
 steps_add s zero k c = let e : 0 + k ≡ k = omega arith in ap (steps s c) e
 steps_add s (suc m) k c = let e : suc m + k ≡ suc (m + k) = omega arith in ap (steps s c) e ∙ steps_add s m k (stepped s c)
 
-pub past : (s : List ℕ) (m n : ℕ) → Tokens s m → kind s m ≡ 59 → m ≤ n → token_after s n ≡ record { look = End (there s m); line = told s (min (m + 2) (records s)) }
+pub past : (s : List ℕ) (m n : ℕ) → Tokens s m → kind s m ≡ 59 → m ≤ n → token_after s n ≡ record { look = None; line = told s (min (m + 2) (records s)) }
 past s m n t e l =
     let k = near s m t in
     let j : m + (n - m) ≡ n = omega arith in
@@ -72,5 +72,5 @@ past s m n t e l =
     let b : Last s m (steps s start n) = subst (Last s m) (sym (steps_add s m (n - m) start) ∙ ap (steps s start) j) a in
     let c = steps s start n in
     let p : c.place + 0 ≡ m = omega (arith, b.0) in
-    let f : look_ahead s c 0 ≡ End (there s m) = look_end s c 0 (ap (kind s) p ∙ e) ∙ ap End b.1 in
-    λ i. record { look = f i; line = told s (b.1 i).mark }
+    let f = look_end s c 0 (ap (kind s) p ∙ e) in
+    λ i. record { look = (f i).0; line = told s (b.1 i).mark }

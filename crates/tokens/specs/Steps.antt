@@ -1,5 +1,5 @@
 -- Where a token reader stands, and where its steps lead. Assumes nothing: these are definitions.
-use Rattle.std.specs.Prelude.{List, false, ℕ, zero, suc}
+use Rattle.std.specs.Prelude.{List, false, ℕ, zero, suc, None}
 use Rattle.stream.specs.Reader.{read_ahead, told, passed, at_end, look_ahead}
 use Rattle.stream.specs.declared.reader.Cursor.{Cursor}
 use Rattle.tokens.specs.declared.TokenReader.{TokenReader}
@@ -7,7 +7,7 @@ use Rattle.tokens.specs.declared.Stop.{Stop}
 
 -- at the beginning: nothing taken, nothing asked for; the note is never looked at
 abbrev pub start : Cursor
-start = record { place = 0; mark = 0; note = record { heard = false; waits = 0; found = 0 } }
+start = record { place = 0; mark = 0; note = record { heard = false; waits = None; found = None } }
 
 -- the same stream, at another cursor
 abbrev pub moved : TokenReader → Cursor → TokenReader
@@ -24,4 +24,4 @@ steps s c (suc n) = steps s (stepped s c) n
 
 -- a look from there, and the line that the reading has come to with it
 abbrev pub token_after : List ℕ → ℕ → Stop
-token_after s n = let c = steps s start n in record { look = look_ahead s c 0; line = told s (read_ahead s c 1).mark }
+token_after s n = let c = steps s start n in record { look = (look_ahead s c 0).0; line = told s (read_ahead s c 1).mark }
