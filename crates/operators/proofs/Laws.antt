@@ -2,6 +2,7 @@
 use mathlib.Core.Path.{◌≡◌, refl, sym, ◌∙◌}
 use mathlib.Core.Bool.{Bool, true, false, ◌&&◌, beq, and-eq-true_iff}
 use mathlib.Core.List.{List, [], ◌∷◌}
+use Rattle.std.proofs.Common.{Some, None}
 use mathlib.Core.Logic.{by_cases}
 use Prim.Native.Nat.{ℕ, ◌<◌}
 use native.Mathlib.Decide.{ℕ_discrete}
@@ -9,7 +10,6 @@ use native.Mathlib.Omega.{arith}
 use lib.Dec.{eqb, ltb}
 use borrow.Author.Tests.{eq-eqb, ne_eqb, eqb-true, lt-ltb, ltb-true, ltb-false}
 use Rattle.operators.specs.Ranks.{Row, row, binary, find, crate, manual, ranks, code, operator, binary_operator}
-use Rattle.operators.specs.declared.Operator.TheVariants.{Found, Nothing}
 use Rattle.operators.specs.declared.Ranking.{Ranking}
 use Rattle.operators.specs.declared.Ranking.TheVariants.{Crate, Manual}
 
@@ -55,15 +55,15 @@ pub same_operators : (k : ℕ) → ltb 0 (crate.left k) ≡ ltb 0 (manual.left k
 same_operators k = beq_at _ _ (rule (λ x y. beq (ltb 0 x.left) (ltb 0 y.left)) k (binary 10) (binary 3) refl refl)
 
 -- what a lookup answers, taken apart
-answered : (x : Row) (c : ℕ) (t : Bool) → ltb 0 x.left ≡ t → operator x ≡ Found c → (0 < x.left) × (x.code ≡ c)
+answered : (x : Row) (c : ℕ) (t : Bool) → ltb 0 x.left ≡ t → operator x ≡ Some c → (0 < x.left) × (x.code ≡ c)
 answered x c true h e = let f = rw (operator, h) at e in (ltb-true _ _ h, (cc))
 answered x c false h e = let f = rw (operator, h) at e in let z : ◌≡◌ {A = ℕ} 0 1 = cc in absurd (omega arith)
 
-unanswered : (x : Row) (t : Bool) → ltb 0 x.left ≡ t → operator x ≡ Nothing → t ≡ false
+unanswered : (x : Row) (t : Bool) → ltb 0 x.left ≡ t → operator x ≡ None → t ≡ false
 unanswered x true h e = let f = rw (operator, h) at e in cc
 unanswered x false h e = refl
 
-pub binary_found : (k c : ℕ) → binary_operator k ≡ Found c → code k ≡ c
+pub binary_found : (k c : ℕ) → binary_operator k ≡ Some c → code k ≡ c
 unfolding binary_operator
 binary_found k c e = (answered (find k (binary 10)) c _ refl e).1
 
@@ -72,11 +72,11 @@ as_crate Crate k = refl
 as_crate Manual k = sym (same_operators k)
 
 -- an operator has a left rank, and nothing else has
-pub binary_left : (g : Ranking) (k c : ℕ) → binary_operator k ≡ Found c → 0 < (ranks g).left k
+pub binary_left : (g : Ranking) (k c : ℕ) → binary_operator k ≡ Some c → 0 < (ranks g).left k
 unfolding binary_operator
 binary_left g k c e = ltb-true _ _ (as_crate g k ∙ lt-ltb _ _ (answered (find k (binary 10)) c _ refl e).0)
 
-pub binary_none : (g : Ranking) (k : ℕ) → binary_operator k ≡ Nothing → (ranks g).left k ≡ 0
+pub binary_none : (g : Ranking) (k : ℕ) → binary_operator k ≡ None → (ranks g).left k ≡ 0
 unfolding binary_operator
 binary_none g k e = omega (arith, ltb-false 0 ((ranks g).left k) (as_crate g k ∙ unanswered (find k (binary 10)) _ refl e))
 

@@ -1,3 +1,2 @@
--- What is proved of the operators' tables, for the readers above; Arms is for this crate's own proofs.
+-- What is proved of the operators' tables, for the readers above.
 pub mod Laws
-mod Arms

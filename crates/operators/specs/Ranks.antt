@@ -1,9 +1,7 @@
 -- The operators and their ranks: 01's table. Assumes nothing: these are definitions.
-use Rattle.std.specs.Prelude.{List, [], ◌∷◌, true, false, ℕ, eqb, ltb}
+use Rattle.std.specs.Prelude.{List, [], ◌∷◌, true, false, ℕ, eqb, ltb, Option, Some, None}
 use Rattle.stream.specs.Kinds.{Or, And, Equal, LessThan, LessEqual, GreaterThan, GreaterEqual, NotEqual, BitOr, BitNotXor, BitAnd, ShiftLeft, ShiftRight}
 use Rattle.stream.specs.Kinds.{Concat, Add, Minus, Mul, Div, IDiv, Mod, Pow, Not, Len}
-use Rattle.operators.specs.declared.Operator.{Operator}
-use Rattle.operators.specs.declared.Operator.TheVariants.{Found, Nothing}
 use Rattle.operators.specs.declared.Priority.{Priority}
 use Rattle.operators.specs.declared.Ranking.{Ranking}
 use Rattle.operators.specs.declared.Ranking.TheVariants.{Crate, Manual}
@@ -80,13 +78,13 @@ abbrev pub unary_code : ℕ → ℕ
 unary_code k = (find k unary).code
 
 -- what the lookups answer
-abbrev pub operator : Row → Operator
-operator x = elim (ltb 0 x.left) [ true ↦ Found x.code | false ↦ Nothing ]
+abbrev pub operator : Row → Option ℕ
+operator x = elim (ltb 0 x.left) [ true ↦ Some x.code | false ↦ None ]
 
-unfoldable pub unary_operator : ℕ → Operator
+unfoldable pub unary_operator : ℕ → Option ℕ
 unary_operator k = operator (find k unary)
 
-unfoldable pub binary_operator : ℕ → Operator
+unfoldable pub binary_operator : ℕ → Option ℕ
 binary_operator k = operator (find k (binary 10))
 
 abbrev pub priority : Ranks → ℕ → Priority

@@ -9,21 +9,14 @@ use stream::kinds::{
     LEN, LESS_EQUAL, LESS_THAN, MINUS, MOD, MUL, NOT, NOT_EQUAL, OR, POW, SHIFT_LEFT, SHIFT_RIGHT,
 };
 
-// An operator's number in the tree: its place in 000's enum.
-#[derive(Clone, Copy)]
-pub enum Operator {
-    Found(u64),
-    Nothing,
-}
-
 // Where `~=` stands: beside `+` and `-` in the crate, beside `==` in the manual.
-#[derive(Clone, Copy)]
+#[derive(Clone, Copy, PartialEq, Eq, Debug)]
 pub enum Ranking {
     Crate,
     Manual,
 }
 
-#[derive(Clone, Copy)]
+#[derive(Clone, Copy, PartialEq, Eq, Debug)]
 pub struct Priority {
     pub left: u64,
     pub right: u64,
@@ -35,53 +28,57 @@ pub const MIN_PRIORITY: u64 = 0;
 // Priority of all unary operators.
 pub const UNARY_PRIORITY: u64 = 12;
 
+// A unary operator's number in the tree: its place in 000's enum.
 #[tactic(auto, unfolding(crate::specs::Ranks::find, crate::specs::Ranks::unary_operator))]
-pub fn get_unary_operator(kind: u64) -> Operator
+pub fn get_unary_operator(kind: u64) -> Option<u64>
     ensures { result ≡ unary_operator kind }
 {
     match kind {
-        NOT => Operator::Found(0),
-        MINUS => Operator::Found(1),
-        BIT_NOT_XOR => Operator::Found(2),
-        LEN => Operator::Found(3),
-        _ => Operator::Nothing,
+        NOT => Some(0),
+        MINUS => Some(1),
+        BIT_NOT_XOR => Some(2),
+        LEN => Some(3),
+        _ => None,
     }
 }
 
+// A binary operator's number in the tree, likewise.
 #[tactic(auto, unfolding(crate::specs::Ranks::find, crate::specs::Ranks::binary_operator))]
-pub fn get_binary_operator(kind: u64) -> Operator
+pub fn get_binary_operator(kind: u64) -> Option<u64>
     ensures { result ≡ binary_operator kind }
 {
     match kind {
-        OR => Operator::Found(20),
-        AND => Operator::Found(19),
-        EQUAL => Operator::Found(14),
-        LESS_THAN => Operator::Found(15),
-        LESS_EQUAL => Operator::Found(16),
-        GREATER_THAN => Operator::Found(17),
-        GREATER_EQUAL => Operator::Found(18),
-        NOT_EQUAL => Operator::Found(13),
-        BIT_OR => Operator::Found(8),
-        BIT_NOT_XOR => Operator::Found(9),
-        BIT_AND => Operator::Found(7),
-        SHIFT_LEFT => Operator::Found(10),
-        SHIFT_RIGHT => Operator::Found(11),
-        CONCAT => Operator::Found(12),
-        ADD => Operator::Found(0),
-        MINUS => Operator::Found(1),
-        MUL => Operator::Found(2),
-        MOD => Operator::Found(3),
-        DIV => Operator::Found(5),
-        IDIV => Operator::Found(6),
-        POW => Operator::Found(4),
-        _ => Operator::Nothing,
+        OR => Some(20),
+        AND => Some(19),
+        EQUAL => Some(14),
+        LESS_THAN => Some(15),
+        LESS_EQUAL => Some(16),
+        GREATER_THAN => Some(17),
+        GREATER_EQUAL => Some(18),
+        NOT_EQUAL => Some(13),
+        BIT_OR => Some(8),
+        BIT_NOT_XOR => Some(9),
+        BIT_AND => Some(7),
+        SHIFT_LEFT => Some(10),
+        SHIFT_RIGHT => Some(11),
+        CONCAT => Some(12),
+        ADD => Some(0),
+        MINUS => Some(1),
+        MUL => Some(2),
+        MOD => Some(3),
+        DIV => Some(5),
+        IDIV => Some(6),
+        POW => Some(4),
+        _ => None,
     }
 }
 
-fn of(left: u64, right: u64) -> Priority
-    ensures { (result.left ≡ left) × (result.right ≡ right) }
-{
-    Priority { left, right }
+impl Priority {
+    fn new(left: u64, right: u64) -> Priority
+        ensures { (result.left ≡ left) × (result.right ≡ right) }
+    {
+        Priority { left, right }
+    }
 }
 
 // The left and right priority of the binary operator that a token of this kind is; 0 where it is none.
@@ -90,30 +87,21 @@ pub fn binary_priority(ranking: Ranking, kind: u64) -> Priority
     ensures { result ≡ priority (ranks ranking) kind }
 {
     match kind {
-        OR => of(1, 1),
-        AND => of(2, 2),
-        EQUAL => of(3, 3),
-        LESS_THAN => of(3, 3),
-        LESS_EQUAL => of(3, 3),
-        GREATER_THAN => of(3, 3),
-        GREATER_EQUAL => of(3, 3),
+        OR => Priority::new(1, 1),
+        AND => Priority::new(2, 2),
+        EQUAL | LESS_THAN | LESS_EQUAL | GREATER_THAN | GREATER_EQUAL => Priority::new(3, 3),
         NOT_EQUAL => match ranking {
-            Ranking::Crate => of(10, 10),
-            Ranking::Manual => of(3, 3),
+            Ranking::Crate => Priority::new(10, 10),
+            Ranking::Manual => Priority::new(3, 3),
         },
-        BIT_OR => of(4, 4),
-        BIT_NOT_XOR => of(5, 5),
-        BIT_AND => of(6, 6),
-        SHIFT_LEFT => of(7, 7),
-        SHIFT_RIGHT => of(7, 7),
-        CONCAT => of(9, 8),
-        ADD => of(10, 10),
-        MINUS => of(10, 10),
-        MUL => of(11, 11),
-        MOD => of(11, 11),
-        DIV => of(11, 11),
-        IDIV => of(11, 11),
-        POW => of(14, 13),
-        _ => of(0, 0),
+        BIT_OR => Priority::new(4, 4),
+        BIT_NOT_XOR => Priority::new(5, 5),
+        BIT_AND => Priority::new(6, 6),
+        SHIFT_LEFT | SHIFT_RIGHT => Priority::new(7, 7),
+        CONCAT => Priority::new(9, 8),
+        ADD | MINUS => Priority::new(10, 10),
+        MUL | MOD | DIV | IDIV => Priority::new(11, 11),
+        POW => Priority::new(14, 13),
+        _ => Priority::new(0, 0),
     }
 }
