@@ -15,5 +15,3 @@ pub mod Notes
 pub mod Agree
 pub mod Carry
 pub mod Trees
--- for this crate's own functions
-pub mod Hearing

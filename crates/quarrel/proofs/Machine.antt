@@ -3,144 +3,131 @@ use mathlib.Core.Path.{◌≡◌, refl, sym, ap, ◌∙◌}
 use mathlib.Core.Bool.{Bool, true, false, ◌||◌, cond}
 use mathlib.Core.List.{List, [], ◌∷◌, ◌++◌}
 use mathlib.Core.Logic.{◌↔◌, ◌⊎◌, inl, inr}
-use mathlib.Core.Option.{Option, none, some}
 use Prim.Native.Nat.{ℕ, ◌≤◌, min}
 use native.Mathlib.Omega.{arith}
 use lib.Dec.{ltb}
 use borrow.Author.Tests.{ltb-true, ltb-false}
+use Rattle.std.specs.Prelude.{Option, Some, None}
+use Rattle.stream.specs.declared.reader.Note.{Note}
 use Rattle.quarrel.specs.Chains.{Op}
 use Rattle.quarrel.specs.Rule.{Quarrels}
+use Rattle.quarrel.specs.Notes.{note, earlier, fresh}
 use Rattle.quarrel.proofs.Classes.{Role, cut, compare, unequal, bits, sum, rest, hear, next, second, quarrel, part, kinds}
 use Rattle.quarrel.proofs.Words.{Loud, words_loud, loud_words, here, later, empty, cases}
 
--- the lower of two places, where there are
-abbrev pub least : Option ℕ → Option ℕ → Option ℕ
-least none p = p
-least (some j) none = some j
-least (some j) (some i) = some (min j i)
-
--- one of the firsts was heard in this piece; the place of the `~=` that one of the seconds would make quarrel; the lowest place found so far
-pub data State : Type 0 where
-  state : (heard : Bool) (waits found : Option ℕ) → State
-
-abbrev pub start : State
-start = state false none none
-
-abbrev pub found : State → Option ℕ
-found (state b p q) = q
+-- the machine's state is a note; at the start nothing was heard, no `~=` waits and none is found
+abbrev pub start : Note
+start = note false None None
 
 -- what an operator at the place i does, by its role
-abbrev pub turn : Role → ℕ → State → State
-turn cut i (state b p q) = state false none q
-turn compare i (state b p q) = state true none q
-turn unequal i (state b p q) = state b (some i) (least q (cond b (some i) none))
-turn bits i (state b p q) = state true none (least q p)
-turn sum i (state b p q) = state b none (least q p)
-turn rest i (state b p q) = state b p q
+abbrev pub turn : Role → ℕ → Note → Note
+turn cut i z = fresh z
+turn compare i z = note true None z.found
+turn unequal i z = note z.heard (Some i) (earlier z.found (cond z.heard (Some i) None))
+turn bits i z = note true None (earlier z.found z.waits)
+turn sum i z = note z.heard None (earlier z.found z.waits)
+turn rest i z = z
 
-abbrev pub step : State → Op → State
+abbrev pub step : Note → Op → Note
 step z o = turn (part o) o.place z
 
-abbrev pub run : State → List Op → State
+abbrev pub run : Note → List Op → Note
 run z [] = z
 run z (o ∷ os) = run (step z o) os
 
-pub run_append : (z : State) (a b : List Op) → run z (a ++ b) ≡ run (run z a) b
+pub run_append : (z : Note) (a b : List Op) → run z (a ++ b) ≡ run (run z a) b
 run_append z [] b = refl
 run_append z (o ∷ a) b = run_append (step z o) a b
 
-pub least_none : (p : Option ℕ) → least p none ≡ p
-least_none none = refl
-least_none (some j) = refl
+pub earlier_none : (p : Option ℕ) → earlier p None ≡ p
+earlier_none None = refl
+earlier_none (Some j) = refl
 
-least_swap : (p q : Option ℕ) → least p q ≡ least q p
-least_swap none q = sym (least_none q)
-least_swap (some j) none = refl
-least_swap (some j) (some i) = ap {B = Option ℕ} some (omega arith)
+earlier_swap : (p q : Option ℕ) → earlier p q ≡ earlier q p
+earlier_swap None q = sym (earlier_none q)
+earlier_swap (Some j) None = refl
+earlier_swap (Some j) (Some i) = ap {B = Option ℕ} Some (omega arith)
 
-pub least_assoc : (p q r : Option ℕ) → least (least p q) r ≡ least p (least q r)
-least_assoc none q r = refl
-least_assoc (some i) none r = refl
-least_assoc (some i) (some j) none = refl
-least_assoc (some i) (some j) (some k) = ap {B = Option ℕ} some (omega arith)
+pub earlier_assoc : (p q r : Option ℕ) → earlier (earlier p q) r ≡ earlier p (earlier q r)
+earlier_assoc None q r = refl
+earlier_assoc (Some i) None r = refl
+earlier_assoc (Some i) (Some j) None = refl
+earlier_assoc (Some i) (Some j) (Some k) = ap {B = Option ℕ} Some (omega arith)
 
-least_twice : (p r : Option ℕ) → least p (least p r) ≡ least p r
-least_twice none r = refl
-least_twice (some i) none = ap {B = Option ℕ} some (omega arith)
-least_twice (some i) (some j) = ap {B = Option ℕ} some (omega arith)
+earlier_twice : (p r : Option ℕ) → earlier p (earlier p r) ≡ earlier p r
+earlier_twice None r = refl
+earlier_twice (Some i) None = ap {B = Option ℕ} Some (omega arith)
+earlier_twice (Some i) (Some j) = ap {B = Option ℕ} Some (omega arith)
 
-exchange : (p q r : Option ℕ) → least (least p q) r ≡ least (least p r) q
-exchange p q r = least_assoc p q r ∙ ap (least p) (least_swap q r) ∙ sym (least_assoc p r q)
+exchange : (p q r : Option ℕ) → earlier (earlier p q) r ≡ earlier (earlier p r) q
+exchange p q r = earlier_assoc p q r ∙ ap (earlier p) (earlier_swap q r) ∙ sym (earlier_assoc p r q)
 
 -- something more found
-abbrev pub adding : State → Option ℕ → State
-adding (state b p q) m = state b p (least q m)
+abbrev pub adding : Note → Option ℕ → Note
+adding z m = note z.heard z.waits (earlier z.found m)
 
-pub found_adding : (z : State) (m : Option ℕ) → found (adding z m) ≡ least (found z) m
-found_adding (state b p q) m = refl
+turn_adding : (k : Role) (i : ℕ) (z : Note) (m : Option ℕ) → turn k i (adding z m) ≡ adding (turn k i z) m
+turn_adding cut i z m = refl
+turn_adding compare i z m = refl
+turn_adding unequal i z m = ap (note z.heard (Some i)) (exchange z.found m (cond z.heard (Some i) None))
+turn_adding bits i z m = ap (note true None) (exchange z.found m z.waits)
+turn_adding sum i z m = ap (note z.heard None) (exchange z.found m z.waits)
+turn_adding rest i z m = refl
 
-turn_adding : (k : Role) (i : ℕ) (z : State) (m : Option ℕ) → turn k i (adding z m) ≡ adding (turn k i z) m
-turn_adding cut i (state b p q) m = refl
-turn_adding compare i (state b p q) m = refl
-turn_adding unequal i (state b p q) m = ap (state b (some i)) (exchange q m (cond b (some i) none))
-turn_adding bits i (state b p q) m = ap (state true none) (exchange q m p)
-turn_adding sum i (state b p q) m = ap (state b none) (exchange q m p)
-turn_adding rest i (state b p q) m = refl
-
-pub run_adding : (z : State) (m : Option ℕ) (os : List Op) → run (adding z m) os ≡ adding (run z os) m
+pub run_adding : (z : Note) (m : Option ℕ) (os : List Op) → run (adding z m) os ≡ adding (run z os) m
 run_adding z m [] = refl
 run_adding z m (o ∷ os) = ap (λ z. run z os) (turn_adding (part o) o.place z m) ∙ run_adding (step z o) m os
 
 -- started with something found: the lower of that and what is found from nothing
-pub run_found : (b : Bool) (p q : Option ℕ) (os : List Op) → found (run (state b p q) os) ≡ least q (found (run (state b p none) os))
+pub run_found : (b : Bool) (p q : Option ℕ) (os : List Op) → (run (note b p q) os).found ≡ earlier q (run (note b p None) os).found
 run_found b p q os =
-    ap found (run_adding (state b p none) q os) ∙ found_adding (run (state b p none) os) q ∙ least_swap (found (run (state b p none) os)) q
+    ap (λ z. z.found) (run_adding (note b p None) q os) ∙ earlier_swap (run (note b p None) os).found q
 
 -- the same by the rule
 low : Bool → List Op → Option ℕ
-low b [] = none
-low b (o ∷ os) = least (cond (quarrel b (part o) (second (kinds os))) (some o.place) none) (low (hear b (part o)) os)
+low b [] = None
+low b (o ∷ os) = earlier (cond (quarrel b (part o) (second (kinds os))) (Some o.place) None) (low (hear b (part o)) os)
 
 abbrev wait : Option ℕ → Bool → Option ℕ
-wait p false = none
+wait p false = None
 wait p true = p
 
-wait_none : (q : Bool) → wait none q ≡ none
+wait_none : (q : Bool) → wait None q ≡ None
 wait_none false = refl
 wait_none true = refl
 
-loud_once : (b q : Bool) (i : ℕ) (r : Option ℕ) → least (cond b (some i) none) (least (wait (some i) q) r) ≡ least (cond (b || q) (some i) none) r
-loud_once true true i r = least_twice (some i) r
+loud_once : (b q : Bool) (i : ℕ) (r : Option ℕ) → earlier (cond b (Some i) None) (earlier (wait (Some i) q) r) ≡ earlier (cond (b || q) (Some i) None) r
+loud_once true true i r = earlier_twice (Some i) r
 loud_once true false i r = refl
 loud_once false true i r = refl
 loud_once false false i r = refl
 
-run_low : (b : Bool) (p : Option ℕ) (os : List Op) → found (run (state b p none) os) ≡ least (wait p (second (kinds os))) (low b os)
+run_low : (b : Bool) (p : Option ℕ) (os : List Op) → (run (note b p None) os).found ≡ earlier (wait p (second (kinds os))) (low b os)
 unfolding low
 run_low b p [] = refl
 run_low b p (o ∷ os) = go (part o) (λ c r. run_low c r os)
   where
-    go : (k : Role) → ((c : Bool) (r : Option ℕ) → found (run (state c r none) os) ≡ least (wait r (second (kinds os))) (low c os))
-        → found (run (turn k o.place (state b p none)) os)
-        ≡ least (wait p (next k (second (kinds os)))) (least (cond (quarrel b k (second (kinds os))) (some o.place) none) (low (hear b k) os))
-    go cut f = f false none ∙ ap (λ x. least x (low false os)) (wait_none (second (kinds os)))
-    go compare f = f true none ∙ ap (λ x. least x (low true os)) (wait_none (second (kinds os)))
-    go unequal f = run_found b (some o.place) (cond b (some o.place) none) os ∙ ap (least (cond b (some o.place) none)) (f b (some o.place))
+    go : (k : Role) → ((c : Bool) (r : Option ℕ) → (run (note c r None) os).found ≡ earlier (wait r (second (kinds os))) (low c os))
+        → (run (turn k o.place (note b p None)) os).found
+        ≡ earlier (wait p (next k (second (kinds os)))) (earlier (cond (quarrel b k (second (kinds os))) (Some o.place) None) (low (hear b k) os))
+    go cut f = f false None ∙ ap (λ x. earlier x (low false os)) (wait_none (second (kinds os)))
+    go compare f = f true None ∙ ap (λ x. earlier x (low true os)) (wait_none (second (kinds os)))
+    go unequal f = run_found b (Some o.place) (cond b (Some o.place) None) os ∙ ap (earlier (cond b (Some o.place) None)) (f b (Some o.place))
         ∙ loud_once b (second (kinds os)) o.place (low b os)
-    go bits f = run_found true none p os ∙ ap (least p) (f true none ∙ ap (λ x. least x (low true os)) (wait_none (second (kinds os))))
-    go sum f = run_found b none p os ∙ ap (least p) (f b none ∙ ap (λ x. least x (low b os)) (wait_none (second (kinds os))))
+    go bits f = run_found true None p os ∙ ap (earlier p) (f true None ∙ ap (λ x. earlier x (low true os)) (wait_none (second (kinds os))))
+    go sum f = run_found b None p os ∙ ap (earlier p) (f b None ∙ ap (λ x. earlier x (low b os)) (wait_none (second (kinds os))))
     go rest f = f b p
 
 -- the lowest of some places, or none where there is none
 pub data Least (P : ℕ → Type 0) : Option ℕ → Type 0 where
-  nowhere : ((i : ℕ) → ¬ P i) → Least P none
-  lowest : {i : ℕ} → P i → ((j : ℕ) → P j → i ≤ j) → Least P (some i)
+  nowhere : ((i : ℕ) → ¬ P i) → Least P None
+  lowest : {i : ℕ} → P i → ((j : ℕ) → P j → i ≤ j) → Least P (Some i)
 
 pub least_alike : {P Q : ℕ → Type 0} {p : Option ℕ} → ((i : ℕ) → P i → Q i) → ((i : ℕ) → Q i → P i) → Least P p → Least Q p
 least_alike f g (nowhere n) = nowhere (λ i q. n i (g i q))
 least_alike f g (lowest {i = i} x l) = lowest (f i x) (λ j q. l j (g j q))
 
-pub least_both : {P Q : ℕ → Type 0} {p q : Option ℕ} → Least P p → Least Q q → Least (λ i. P i ⊎ Q i) (least p q)
+pub least_both : {P Q : ℕ → Type 0} {p q : Option ℕ} → Least P p → Least Q q → Least (λ i. P i ⊎ Q i) (earlier p q)
 least_both {P} {Q} (nowhere f) (nowhere g) = nowhere none_of
   where
     none_of : (i : ℕ) → ¬ (P i ⊎ Q i)
@@ -166,15 +153,15 @@ least_both {P} {Q} (lowest {i = i} x l) (lowest {i = k} y m) = lowest (which (lt
     each j (inl z) = omega (arith, l j z)
     each j (inr z) = omega (arith, m j z)
 
-pub exactly_none : {P : ℕ → Type 0} {p : Option ℕ} → Least P p → (p ≡ none) ↔ ((i : ℕ) → ¬ P i)
+pub exactly_none : {P : ℕ → Type 0} {p : Option ℕ} → Least P p → (p ≡ None) ↔ ((i : ℕ) → ¬ P i)
 exactly_none (nowhere f) = ((λ e. f), (λ g. refl))
 exactly_none {P} (lowest {i = i} x l) = ((λ e. let z : ◌≡◌ {A = ℕ} 0 1 = cc in absurd (omega arith)), (λ g. absurd (g i x)))
 
-pub exactly_some : {P : ℕ → Type 0} {p : Option ℕ} (i : ℕ) → Least P p → (p ≡ some i) ↔ (P i × ((j : ℕ) → P j → i ≤ j))
+pub exactly_some : {P : ℕ → Type 0} {p : Option ℕ} (i : ℕ) → Least P p → (p ≡ Some i) ↔ (P i × ((j : ℕ) → P j → i ≤ j))
 exactly_some i (nowhere f) = ((λ e. let z : ◌≡◌ {A = ℕ} 0 1 = cc in absurd (omega arith)), (λ g. absurd (f i g.0)))
 exactly_some {P} i (lowest {i = k} x l) = (
   (λ e. let q : k ≡ i = cc in rw (← q) (x, l)),
-  (λ g. ap {B = Option ℕ} some (omega (arith, l i g.0, g.1 k x))),
+  (λ g. ap {B = Option ℕ} Some (omega (arith, l i g.0, g.1 k x))),
 )
 
 -- at the place i a `~=` quarrels
@@ -191,7 +178,7 @@ low_lowest b (o ∷ os) = least_alike join split (least_both (first (quarrel b (
     First : ℕ → Type 0
     First i = (o.place ≡ i) × (quarrel b (part o) (second (kinds os)) ≡ true)
 
-    first : (a : Bool) → quarrel b (part o) (second (kinds os)) ≡ a → Least First (cond a (some o.place) none)
+    first : (a : Bool) → quarrel b (part o) (second (kinds os)) ≡ a → Least First (cond a (Some o.place) None)
     first true e = lowest (refl, e) (λ j x. omega arith)
     first false e = nowhere (λ i x. let z : true ≡ false = cc in let z : ◌≡◌ {A = ℕ} 0 1 = cc in omega arith)
 
@@ -213,18 +200,18 @@ pub record Placed (os : List Op) (i : ℕ) : Type 0 where
   pub there : one.place ≡ i
 
 -- the machine finds the lowest place that quarrels
-pub run_lowest : (os : List Op) → Least (Placed os) (found (run start os))
+pub run_lowest : (os : List Op) → Least (Placed os) (run start os).found
 run_lowest os = least_alike {P = Sounds false os} (λ i x. record { one = x.one; quarrels = loud_words x.loud; there = x.there })
-    (λ i x. record { one = x.one; loud = words_loud x.quarrels; there = x.there }) (rw (run_low false none os, wait_none (second (kinds os))) (low_lowest false os))
+    (λ i x. record { one = x.one; loud = words_loud x.quarrels; there = x.there }) (rw (run_low false None os, wait_none (second (kinds os))) (low_lowest false os))
 
-pub run_none : (os : List Op) → (found (run start os) ≡ none) ↔ ((x : Op) → ¬ Quarrels os x)
+pub run_none : (os : List Op) → ((run start os).found ≡ None) ↔ ((x : Op) → ¬ Quarrels os x)
 run_none os = let h = exactly_none (run_lowest os) in (
   (λ e x q. h.0 e x.place record { one = x; quarrels = q; there = refl }),
   (λ f. h.1 (λ i x. f x.one x.quarrels)),
 )
 
 pub run_some : (os : List Op) (i : ℕ)
-    → (found (run start os) ≡ some i) ↔ ((x : Op) × Quarrels os x × (x.place ≡ i) × ((y : Op) → Quarrels os y → i ≤ y.place))
+    → ((run start os).found ≡ Some i) ↔ ((x : Op) × Quarrels os x × (x.place ≡ i) × ((y : Op) → Quarrels os y → i ≤ y.place))
 run_some os i = let h = exactly_some i (run_lowest os) in (
   (λ e. let x = h.0 e in (x.0.one, x.0.quarrels, x.0.there, λ y q. x.1 y.place record { one = y; quarrels = q; there = refl })),
   (λ x. h.1 (record { one = x.0; quarrels = x.1; there = x.2 }, λ j y. omega (arith, x.3 y.one y.quarrels, y.there))),

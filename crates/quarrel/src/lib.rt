@@ -1,148 +1,106 @@
 // The quarrel rule, heard on the way: one pass over the operators of a chain, in token order.
 //
 // A note has whether one of `== < <= > >= | ~ & << >> ..` was heard in this piece of the chain; the `~=` that waits for one of
-// `| ~ & << >> .. + -`; and the first that quarrels, of all that were found. `NONE` stands for no token.
+// `| ~ & << >> .. + -`, if one does; and the first that quarrels, of all that were found.
 #![tactic(auto)]
 
-ghost use Rattle.std.specs.Prelude.{◌≡◌, true, false, min};
+ghost use Rattle.std.specs.Prelude.{◌≡◌, true, false, None};
 ghost use Rattle.stream.specs.Kinds.{NotEqual};
-ghost use Rattle.quarrel.specs.Notes.{NONE, hears, fresh, resumed};
+ghost use Rattle.quarrel.specs.Notes.{earlier, hears, fresh, resumed};
 
 use stream::kinds::{
     ADD, AND, BIT_AND, BIT_NOT_XOR, BIT_OR, CONCAT, EQUAL, GREATER_EQUAL, GREATER_THAN, LESS_EQUAL,
     LESS_THAN, MINUS, NOT_EQUAL, OR, SHIFT_LEFT, SHIFT_RIGHT,
 };
-use stream::reader::{Cursor, Note};
+use stream::reader::Note;
 
-pub const NONE: usize = 18446744073709551615;
-
-fn lower(a: usize, b: usize) -> usize
-    ensures { result ≡ min a b }
+fn earlier(a: Option<usize>, b: Option<usize>) -> Option<usize>
+    ensures { result ≡ earlier a b }
 {
-    if a < b { a } else { b }
-}
-
-// What an operator of this kind, at this place, adds to a note.
-#[tactic(auto, unfolding(crate::specs::Notes::hears))]
-fn heard(n: Note, kind: u64, place: usize) -> Note
-    ensures { result ≡ hears n kind place }
-{
-    match kind {
-        AND => piece(n),
-        OR => piece(n),
-        EQUAL => comparison(n),
-        LESS_THAN => comparison(n),
-        LESS_EQUAL => comparison(n),
-        GREATER_THAN => comparison(n),
-        GREATER_EQUAL => comparison(n),
-        NOT_EQUAL => unequal(n, place),
-        BIT_OR => bits(n),
-        BIT_NOT_XOR => bits(n),
-        BIT_AND => bits(n),
-        SHIFT_LEFT => bits(n),
-        SHIFT_RIGHT => bits(n),
-        CONCAT => bits(n),
-        ADD => sum(n),
-        MINUS => sum(n),
-        _ => n,
+    match (a, b) {
+        (Some(i), Some(j)) => Some(i.min(j)),
+        _ => a.or(b),
     }
 }
 
-fn piece(n: Note) -> Note
-    ensures { result ≡ record { heard = false; waits = NONE; found = n.found } }
+// The note, with an operator of this kind heard at this place.
+#[tactic(auto, unfolding(crate::specs::Notes::hears))]
+pub fn hear(note: Note, kind: u64, place: usize) -> Note
+    ensures { result ≡ hears note kind place }
+{
+    match kind {
+        AND | OR => fresh(note),
+        EQUAL | LESS_THAN | LESS_EQUAL | GREATER_THAN | GREATER_EQUAL => comparison(note),
+        NOT_EQUAL => unequal(note, place),
+        BIT_OR | BIT_NOT_XOR | BIT_AND | SHIFT_LEFT | SHIFT_RIGHT | CONCAT => bits(note),
+        ADD | MINUS => sum(note),
+        _ => note,
+    }
+}
+
+fn comparison(note: Note) -> Note
+    ensures { result ≡ record { heard = true; waits = None; found = note.found } }
+{
+    Note {
+        heard: true,
+        waits: None,
+        ..note
+    }
+}
+
+#[tactic(auto, unfolding(crate::specs::Notes::hears))]
+fn unequal(note: Note, place: usize) -> Note
+    ensures { result ≡ hears note NotEqual place }
+{
+    let waits = Some(place);
+    let found = if note.heard {
+        earlier(note.found, waits)
+    } else {
+        note.found
+    };
+    Note {
+        waits,
+        found,
+        ..note
+    }
+}
+
+fn bits(note: Note) -> Note
+    ensures { result ≡ record { heard = true; waits = None; found = earlier note.found note.waits } }
+{
+    Note {
+        heard: true,
+        ..sum(note)
+    }
+}
+
+fn sum(note: Note) -> Note
+    ensures { result ≡ record { heard = note.heard; waits = None; found = earlier note.found note.waits } }
+{
+    Note {
+        waits: None,
+        found: earlier(note.found, note.waits),
+        ..note
+    }
+}
+
+// The note at the start of a chain of its own, or of the next piece of a chain.
+pub fn fresh(note: Note) -> Note
+    ensures { result ≡ fresh note }
 {
     Note {
         heard: false,
-        waits: NONE,
-        found: n.found,
+        waits: None,
+        ..note
     }
 }
 
-fn comparison(n: Note) -> Note
-    ensures { result ≡ record { heard = true; waits = NONE; found = n.found } }
+// The note after a chain of its own, back in the chain around it.
+pub fn resume(outer: Note, note: Note) -> Note
+    ensures { result ≡ resumed outer note }
 {
     Note {
-        heard: true,
-        waits: NONE,
-        found: n.found,
-    }
-}
-
-#[tactic(auto, unfolding(crate::specs::Notes::hears))]
-fn unequal(n: Note, place: usize) -> Note
-    ensures { result ≡ hears n NotEqual place }
-{
-    let mut found = n.found;
-    if n.heard {
-        found = lower(found, place);
-    }
-    Note {
-        heard: n.heard,
-        waits: place,
-        found,
-    }
-}
-
-fn bits(n: Note) -> Note
-    ensures { result ≡ record { heard = true; waits = NONE; found = min n.found n.waits } }
-{
-    Note {
-        heard: true,
-        waits: NONE,
-        found: lower(n.found, n.waits),
-    }
-}
-
-fn sum(n: Note) -> Note
-    ensures { result ≡ record { heard = n.heard; waits = NONE; found = min n.found n.waits } }
-{
-    Note {
-        heard: n.heard,
-        waits: NONE,
-        found: lower(n.found, n.waits),
-    }
-}
-
-// The cursor, with an operator heard.
-pub fn hear(c: Cursor, kind: u64, place: usize) -> Cursor
-    ensures { result ≡ record { place = c.place; mark = c.mark; note = hears c.note kind place } }
-{
-    let n = c.note;
-    let note = heard(n, kind, place);
-    Cursor {
-        place: c.place,
-        mark: c.mark,
-        note,
-    }
-}
-
-// The cursor at the start of a chain of its own.
-pub fn fresh(c: Cursor) -> Cursor
-    ensures { result ≡ record { place = c.place; mark = c.mark; note = fresh c.note } }
-{
-    let n = c.note;
-    let note = piece(n);
-    Cursor {
-        place: c.place,
-        mark: c.mark,
-        note,
-    }
-}
-
-// The cursor after a chain of its own, back in the chain around it.
-pub fn resume(outer: Cursor, c: Cursor) -> Cursor
-    ensures { result ≡ record { place = c.place; mark = c.mark; note = resumed outer.note c.note } }
-{
-    let o = outer.note;
-    let n = c.note;
-    let note = Note {
-        heard: o.heard,
-        waits: o.waits,
-        found: n.found,
-    };
-    Cursor {
-        place: c.place,
-        mark: c.mark,
-        note,
+        found: note.found,
+        ..outer
     }
 }
