@@ -6,6 +6,7 @@ use mathlib.Core.List.{List}
 use Prim.Native.Nat.{ℕ, ◌+◌, ◌*◌, ◌-◌, ◌≤◌, ◌<◌}
 use native.Mathlib.Nat.{zero-add, add_assoc}
 use native.Mathlib.Omega.{arith}
+use Rattle.std.specs.Prelude.{Result, Ok, Err}
 use lib.ListN.{length}
 use lib.Dec.{eqb}
 use lib.Seq.{sets, length-sets}
@@ -22,11 +23,8 @@ use Rattle.grammar.specs.Term.{Line, unlined}
 use Rattle.grammar.specs.Reading.{Out, fine, fail, Reader, add, then, wrap, line_of}
 use Rattle.quarrel.specs.Notes.{noted, held, hears, fresh, resumed}
 use Rattle.quarrel.proofs.Added.{noted_join, noted_tree}
-use Rattle.parser.specs.Contract.{Ready, Fined, Fine, Meets, Sums, Closes, Ordinary, chained, counts, begins, backs}
-use Rattle.parser.specs.declared.Step.{Step}
-use Rattle.parser.specs.declared.Step.TheVariants.{Done, Fail}
-use Rattle.parser.specs.declared.Sum.{Sum}
-use Rattle.parser.specs.declared.Sum.TheVariants as Sum·
+use Rattle.parser.specs.Contract.{Ready, Fined, Fine, Meets, Sums, Ordinary, chained, counts, begins, backs}
+use Rattle.parser.specs.declared.place.Place.{Place}
 use Rattle.parser.proofs.Steps.{Advanced}
 
 -- trees and values before what is read
@@ -56,11 +54,15 @@ pub kept : {w' : Forest → Note → Note} {s : List ℕ} {q : Note} {low used m
 kept {used = used} {n = n} f = ap length f.laid ∙ length-sets n (used * 4) (flat f.trees)
 
 -- what may be relied on after it; and after a look
-pub ready_at : {w' : Forest → Note → Note} {s : List ℕ} {q : Note} {low used more : ℕ} {n n' : List ℕ} {o : Out} {c : Cursor} {u v slack : ℕ} → Formed s → Fined w' s q low used more n n' o c u v → more ≤ slack → Ready s c u slack
-ready_at x f l = record { formed = x; at = f.at; room = omega (arith, f.room) }
+pub ready_at : {w' : Forest → Note → Note} {s : List ℕ} {q : Note} {low used more : ℕ} {n n' : List ℕ} {o : Out} {c : Cursor} {u v slack : ℕ} → Fined w' s q low used more n n' o c u v → more ≤ slack → Ready s (record { cursor = c; used = u }) slack
+ready_at f l = record { at = f.at; room = omega (arith, f.room) }
 
-pub ready_seen : {s : List ℕ} {c d : Cursor} {used slack : ℕ} → Ready s c used slack → d.place ≡ c.place → Ready s d used slack
-ready_seen r p = record { formed = r.formed; at = omega (arith, r.at, p); room = omega (arith, r.room, p) }
+pub ready_seen : {s : List ℕ} {p : Place} {slack : ℕ} (d : Cursor) → Ready s p slack → d.place ≡ p.cursor.place → Ready s (record { cursor = d; used = p.used }) slack
+ready_seen d r e = record { at = omega (arith, r.at, e); room = omega (arith, r.room, e) }
+
+-- a record is kept for a parent
+pub ready_open : {s : List ℕ} {p : Place} {slack : ℕ} → Ready s p slack → Ready s (record { cursor = p.cursor; used = p.used + 1 }) (slack + 1)
+ready_open r = record { at = r.at; room = omega (arith, r.room) }
 
 -- with another bound, which the cursor shows; under another name; with a value under another name
 pub lower : {w' : Forest → Note → Note} {s : List ℕ} {q : Note} {low used more : ℕ} {n n' : List ℕ} {o : Out} {c : Cursor} {u v : ℕ} (low' : ℕ) → Fined w' s q low used more n n' o c u v → low' ≤ c.place → Fined w' s q low' used more n n' o c u v
@@ -85,13 +87,13 @@ renoted {w'} e f = record { trees = f.trees; says = f.says; grown = f.grown; lai
 
 -- an answer under another name, with a smaller bound; a number of things likewise
 module _ (s : List ℕ) {q q' : Note} (x : q ≡ q') {low low' : ℕ} (used more : ℕ) (n n' : List ℕ) {o o' : Out} where
-  pub moved : (r : Step) → o' ≡ o → low' ≤ low → Meets s q low used more n n' o r → Meets s q' low' used more n n' o' r
-  moved (Done c u) e l f = alter e (lower low' (renoted x f) (omega (arith, f.later)))
-  moved (Fail z) e l f = e ∙ f
+  pub moved : (p : Place) (r : Result Unit Refusal) → o' ≡ o → low' ≤ low → Meets s q low used more n n' o p r → Meets s q' low' used more n n' o' p r
+  moved p (Ok y) e l f = alter e (lower low' (renoted x f) (omega (arith, f.later)))
+  moved p (Err z) e l f = e ∙ f
 
-  pub moved_sum : {start start' : ℕ} (r : Sum) → o' ≡ o → start' ≤ start → low' ≤ low → Sums s q start low used more n n' o r → Sums s q' start' low' used more n n' o' r
-  moved_sum (Sum·.Done c u v) e a l f = (alter e (lower low' (renoted x f.0) (omega (arith, f.0.later))), omega (arith, f.1))
-  moved_sum (Sum·.Fail z) e a l f = e ∙ f
+  pub moved_sum : {start start' : ℕ} (p : Place) (r : Result ℕ Refusal) → o' ≡ o → start' ≤ start → low' ≤ low → Sums s q start low used more n n' o p r → Sums s q' start' low' used more n n' o' p r
+  moved_sum p (Ok v) e a l f = (alter e (lower low' (renoted x f.0) (omega (arith, f.0.later))), omega (arith, f.1))
+  moved_sum p (Err z) e a l f = e ∙ f
 
 -- nothing was laid: a look; a token; a weight alone
 pub looked : {s : List ℕ} {o : Out} (n : List ℕ) (used more : ℕ) (c d : Cursor) → o ≡ fine d.place d.mark none 0 → d.place ≡ c.place → d.note ≡ c.note → c.place < records s → used ≤ 4 * c.place + more
@@ -203,19 +205,19 @@ pub both : {s : List ℕ} {q : Note} {low low' used more more' : ℕ} {n n₁ n�
 both f x y l = ends (follow f x) y l
 
 -- what comes next answers for both; where it is the later part that moves on
-pub onward_later : {s : List ℕ} {q : Note} {low low' used more : ℕ} {n n₁ : List ℕ} {o : Out} {c : Cursor} {u : ℕ} (low'' more' : ℕ) (n₂ : List ℕ) (f : Reader) → Fine s q low used more n n₁ o c u 0 → (r : Step)
-    → Meets s c.note low' u more' n₁ n₂ (f c.place c.mark) r → c.place ≤ low' → low'' ≤ low' → Meets s q low'' used more' n n₂ (then o f) r
-onward_later low'' more' n₂ f x (Done d w) y l k = lower low'' (both f x y l) (omega (arith, y.later))
-onward_later low'' more' n₂ f x (Fail e) y l k = past f x y
+pub onward_later : {s : List ℕ} {q : Note} {low low' used more : ℕ} {n n₁ : List ℕ} {o : Out} {c : Cursor} {u : ℕ} (low'' more' : ℕ) (n₂ : List ℕ) (f : Reader) → Fine s q low used more n n₁ o c u 0 → (p : Place) (r : Result Unit Refusal)
+    → Meets s c.note low' u more' n₁ n₂ (f c.place c.mark) p r → c.place ≤ low' → low'' ≤ low' → Meets s q low'' used more' n n₂ (then o f) p r
+onward_later low'' more' n₂ f x p (Ok z) y l k = lower low'' (both f x y l) (omega (arith, y.later))
+onward_later low'' more' n₂ f x p (Err e) y l k = past f x y
 
-pub onward : {s : List ℕ} {q : Note} {low low' used more : ℕ} {n n₁ : List ℕ} {o : Out} {c : Cursor} {u : ℕ} (more' : ℕ) (n₂ : List ℕ) (f : Reader) → Fine s q low used more n n₁ o c u 0 → (r : Step)
-    → Meets s c.note low' u more' n₁ n₂ (f c.place c.mark) r → c.place ≤ low' → Meets s q low used more' n n₂ (then o f) r
-onward {low = low} more' n₂ f x r y l = onward_later low more' n₂ f x r y l (omega (arith, x.later))
+pub onward : {s : List ℕ} {q : Note} {low low' used more : ℕ} {n n₁ : List ℕ} {o : Out} {c : Cursor} {u : ℕ} (more' : ℕ) (n₂ : List ℕ) (f : Reader) → Fine s q low used more n n₁ o c u 0 → (p : Place) (r : Result Unit Refusal)
+    → Meets s c.note low' u more' n₁ n₂ (f c.place c.mark) p r → c.place ≤ low' → Meets s q low used more' n n₂ (then o f) p r
+onward {low = low} more' n₂ f x p r y l = onward_later low more' n₂ f x p r y l (omega (arith, x.later))
 
-pub onward_sum : {s : List ℕ} {q : Note} {low low' used more : ℕ} {n n₁ : List ℕ} {o : Out} {c : Cursor} {u : ℕ} (start more' : ℕ) (n₂ : List ℕ) (f : Reader) → Fine s q low used more n n₁ o c u 0 → (r : Sum)
-    → Sums s c.note c.place low' u more' n₁ n₂ (f c.place c.mark) r → c.place ≤ low' → start ≤ c.place → Sums s q start low used more' n n₂ (then o f) r
-onward_sum start more' n₂ f x (Sum·.Done d w v) y l b = (revalue (omega arith) (both f x y.0 l), omega (arith, y.1))
-onward_sum start more' n₂ f x (Sum·.Fail e) y l b = past f x y
+pub onward_sum : {s : List ℕ} {q : Note} {low low' used more : ℕ} {n n₁ : List ℕ} {o : Out} {c : Cursor} {u : ℕ} (start more' : ℕ) (n₂ : List ℕ) (f : Reader) → Fine s q low used more n n₁ o c u 0 → (p : Place) (r : Result ℕ Refusal)
+    → Sums s c.note c.place low' u more' n₁ n₂ (f c.place c.mark) p r → c.place ≤ low' → start ≤ c.place → Sums s q start low used more' n n₂ (then o f) p r
+onward_sum start more' n₂ f x p (Ok v) y l b = (revalue (omega arith) (both f x y.0 l), omega (arith, y.1))
+onward_sum start more' n₂ f x p (Err e) y l b = past f x y
 
 -- a record over what was read, which stands behind it: whatever that added to a note, and whatever the record does
 laid_over : {w w' : Forest → Note → Note} {s : List ℕ} {q q' : Note} {low used more : ℕ} {n n₁ n₂ : List ℕ} {o : Out} {c : Cursor} {u v : ℕ} (tag : ℕ) (l : Line) (i line : ℕ) (d : Cursor) → d.place ≡ c.place → d.mark ≡ c.mark
@@ -238,15 +240,6 @@ pub over : {s : List ℕ} {q : Note} {low used more : ℕ} {n n₁ n₂ : List �
     → n₂ ≡ sets n₁ (used * 4) (words tag v line (u - used)) → line ≡ line_of s l i c.place → Fine s q low used more n n₂ (wrap s tag l i o) c u 0
 over {s} {q} {c = c} {v = v} tag l i line y f e p = laid_over tag l i line c refl refl f e p (f.noted ∙ sym (noted_tree s tag v (line_of s l i c.place) i f.trees none q y))
 
--- a record over two parts and a look, which is what closes it
-pub closed : {s : List ℕ} {q : Note} {low low' more more' : ℕ} {n n₁ n₂ : List ℕ} {o : Out} {c d : Cursor} {u w v v' : ℕ} (used more'' tag value : ℕ) (l : Line) (i line : ℕ) → Ordinary tag → (n₃ : List ℕ) (f g : Reader)
-    → Fine s q low (used + 1) more n n₁ o c u v → Fine s c.note low' u more' n₁ n₂ (f c.place c.mark) d w v' → c.place ≤ low' → (r : Step)
-    → Closes s d used w more'' n₂ n₃ (g d.place d.mark) tag value line r → v + v' ≡ value
-    → ((e : Cursor) (x : ℕ) → Fine s d.note d.place w more'' n₂ n₂ (g d.place d.mark) e x 0 → line ≡ line_of s l i e.place)
-    → Meets s q low used more'' n n₃ (wrap s tag l i (then o (λ p m. then (f p m) g))) r
-closed used more'' tag value l i line p n₃ f g x y k (Done e a) z q b = over tag l i line p (revalue (omega (arith, q)) (both (λ p m. then (f p m) g) x (both g y z.0 (omega arith)) k)) z.1 (b e a z.0)
-closed {s = s} used more'' tag value l i line p n₃ f g x y k (Fail e) z q b = ap (wrap s tag l i) (past (λ p m. then (f p m) g) x (past g y z))
-
 -- an operand that a unary operator holds, and one that a tail holds, after the tail's operator
 abbrev Holds : ℕ → List ℕ → Note → ℕ → Note
 Holds tag s q i = elim (eqb tag 19) as (λ z. Note) [ true ↦ hears q (kind s i) i | false ↦ q ]
@@ -266,35 +259,11 @@ pub over_own : {s : List ℕ} {q : Note} {low used more : ℕ} {n n₁ n₂ : Li
 over_own {c = c} i f y w = laid_over 17 unlined i 0 c refl refl f w refl (f.noted ∙ y)
 
 -- an expression's record: it has a chain of its own, or goes on with the one that it stands in
-begun_place : (x : Bool) (c : Cursor) → (begins x c).place ≡ c.place
-begun_place true c = refl
-begun_place false c = refl
-
-begun_mark : (x : Bool) (c : Cursor) → (begins x c).mark ≡ c.mark
-begun_mark true c = refl
-begun_mark false c = refl
-
-backed_place : (x : Bool) (o c : Cursor) → (backs x o c).place ≡ c.place
-backed_place true o c = refl
-backed_place false o c = refl
-
-backed_mark : (x : Bool) (o c : Cursor) → (backs x o c).mark ≡ c.mark
-backed_mark true o c = refl
-backed_mark false o c = refl
-
--- where the chain begins the reading is where it was
-pub begun_at : (x : Bool) (c b : Cursor) → b ≡ begins x c → b.place ≡ c.place
-begun_at x c b e = ap (λ (z : Cursor). z.place) e ∙ begun_place x c
-
-pub begun_reads : (x : Bool) (c b : Cursor) (f : Reader) → b ≡ begins x c → f c.place c.mark ≡ f b.place b.mark
-begun_reads x c b f e = sym (ap (λ (z : Cursor). f z.place z.mark) e ∙ ap (λ (z : ℕ). f z (begins x c).mark) (begun_place x c) ∙ ap (f c.place) (begun_mark x c))
-
-pub over_expression : {s : List ℕ} {low used more : ℕ} {n n₁ n₂ : List ℕ} {o : Out} {e : Cursor} {u v : ℕ} (x : Bool) (c b d : Cursor) (i : ℕ) → b ≡ begins x c → d ≡ backs x c e
-    → Fine s b.note low (used + 1) more n n₁ o e u v → n₂ ≡ sets n₁ (used * 4) (words 17 v 0 (u - used)) → Fined (chained x s) s c.note low used more n n₂ (wrap s 17 unlined i o) d u 0
-over_expression {s} {low} {used} {more} {n} {n₁} {n₂} {o} {e} {u} {v} x c b d i p r f w =
-    laid_over 17 unlined i 0 d (ap (λ (z : Cursor). z.place) r ∙ backed_place x c e) (ap (λ (z : Cursor). z.mark) r ∙ backed_mark x c e) f w refl
-    (ap (λ (z : Cursor). z.note) r ∙ backed_note x f.trees (f.noted ∙ ap (λ (z : Cursor). noted s f.trees z.note) p))
+pub over_expression : {s : List ℕ} {low used more : ℕ} {n n₁ n₂ : List ℕ} {o : Out} {e : Cursor} {u v : ℕ} (x : Bool) (q b d : Note) (i : ℕ) → b ≡ begins x q → d ≡ backs x q e.note
+    → Fine s b low (used + 1) more n n₁ o e u v → n₂ ≡ sets n₁ (used * 4) (words 17 v 0 (u - used)) → Fined (chained x s) s q low used more n n₂ (wrap s 17 unlined i o) (record { place = e.place; mark = e.mark; note = d }) u 0
+over_expression {s} {low} {used} {more} {n} {n₁} {n₂} {o} {e} {u} {v} x q b d i p r f w =
+    laid_over 17 unlined i 0 (record { place = e.place; mark = e.mark; note = d }) refl refl f w refl (r ∙ backed_note x f.trees (f.noted ∙ ap (noted s f.trees) p))
   where
-    backed_note : (x : Bool) (k : Forest) → e.note ≡ noted s k (begins x c).note → (backs x c e).note ≡ chained x s (tree 17 v 0 i k none) c.note
-    backed_note true k y = ap (resumed c.note) y
+    backed_note : (x : Bool) (k : Forest) → e.note ≡ noted s k (begins x q) → backs x q e.note ≡ chained x s (tree 17 v 0 i k none) q
+    backed_note true k y = ap (resumed q) y
     backed_note false k y = y

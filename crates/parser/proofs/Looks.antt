@@ -4,22 +4,18 @@ use mathlib.Core.Path.{◌≡◌, refl, sym, ap, ◌∙◌, subst}
 use mathlib.Core.List.{List, [], ◌∷◌}
 use mathlib.Core.Bool.{Bool, true, false}
 use mathlib.Core.Logic.{by_cases}
-use Prim.Native.Nat.{ℕ, ◌+◌, ◌*◌, ◌≤◌}
+use Prim.Native.Nat.{ℕ, ◌+◌}
 use native.Mathlib.Decide.{ℕ_discrete}
 use native.Mathlib.Nat.{add-zero}
-use native.Mathlib.Omega.{arith}
 use lib.Dec.{eqb}
+use Rattle.std.specs.Prelude.{Option, Some, None, Result, Ok, Err}
 use borrow.Author.Tests.{ne_eqb}
 use Rattle.stream.specs.Words.{kind}
-use Rattle.stream.specs.Formed.{Formed}
-use Rattle.stream.specs.Reader.{reached, read_ahead, token_at, passed, expecting, get_next, take_next, expect_next, look_ahead}
+use Rattle.stream.specs.Reader.{reached, read_ahead, token_at, passed, get_next, take_next, look_ahead}
 use Rattle.stream.specs.declared.reader.Cursor.{Cursor}
 use Rattle.stream.specs.declared.reader.Note.{Note}
 use Rattle.stream.specs.declared.reader.Token.{Token}
 use Rattle.stream.specs.declared.reader.Refusal.{Refusal}
-use Rattle.stream.specs.declared.reader.Next.{Next}
-use Rattle.stream.specs.declared.reader.Next.TheVariants.{Took, Fail}
-use Rattle.stream.specs.declared.reader.Look.TheVariants.{Seen, End}
 use Rattle.stream.proofs.Reading.{reached_twice, get_end, get_token, take_end, take_token, look_end, look_token}
 use Rattle.operators.specs.Ranks.{Ranks}
 use Rattle.operators.specs.declared.Ranking.{Ranking}
@@ -27,38 +23,41 @@ use Rattle.tree.specs.Forest.{none}
 use Rattle.grammar.specs.Member.{member}
 use Rattle.grammar.specs.Term.{Term, next, any, ◌⨾◌, on, refuse}
 use Rattle.grammar.specs.Reading.{Out, fine, fail, Reader, Readers, Held, then, ended, read}
-use Rattle.grammar.specs.Productions.{word, look}
+use Rattle.grammar.specs.Productions.{look}
 use Rattle.grammar.proofs.Tests.{no_case}
 use Rattle.grammar.proofs.Among.{Unlike, unlike, other}
-use Rattle.parser.specs.Contract.{Fine, Meets, Sums, says, stepped, counting}
-use Rattle.parser.specs.declared.Step.{Step}
-use Rattle.parser.specs.declared.Sum.{Sum}
-use Rattle.parser.proofs.Steps.{got, saw, ran_out, got_line, get_place, took_next, next_fail, next_is}
-use Rattle.parser.proofs.Kit.{alter, lower, revalue, Going, fails, ends}
-use Rattle.parser.proofs.Tokens.{word_fail, word_fine}
+use Rattle.parser.specs.Contract.{Fine, says}
+use Rattle.parser.proofs.Steps.{never, got, saw, ran_out, got_line, get_place, took_next, next_fail, next_is}
+
+-- an answer and a cursor
+abbrev answered : Result Token Refusal → Cursor → Result Token Refusal × Cursor
+answered r d = (r, d)
+
+abbrev looked_at : Option Token → Cursor → Option Token × Cursor
+looked_at r d = (r, d)
 
 module _ (s : List ℕ) where
   twice : (c : Cursor) (n : ℕ) → read_ahead s (read_ahead s c n) n ≡ read_ahead s c n
   twice c n = ap (λ (z : ℕ). record { place = c.place; mark = z; note = c.note }) (reached_twice s c.mark c.place (n + 1))
 
   -- what was got is got again; what was seen is seen again; and so is the end
-  pub got_again : (c : Cursor) {t : Token} {d : Cursor} → get_next s c ≡ Took t d → get_next s d ≡ Took t d
+  pub got_again : (c : Cursor) {t : Token} {d : Cursor} → get_next s c ≡ (Ok t, d) → get_next s d ≡ (Ok t, d)
   got_again c {t} {d} x =
       let g = got s c x in
-      subst (λ (z : Cursor). get_next s z ≡ Took t z) (sym g.cursor)
-      (get_token s (read_ahead s c 1) g.real ∙ ap (λ (z : Token). Took z (read_ahead s (read_ahead s c 1) 1)) (sym g.token) ∙ ap (Took t) (twice c 1))
+      subst (λ (z : Cursor). get_next s z ≡ (Ok t, z)) (sym g.cursor)
+      (get_token s (read_ahead s c 1) g.real ∙ ap (λ (z : Token). answered (Ok z) (read_ahead s (read_ahead s c 1) 1)) (sym g.token) ∙ ap (answered (Ok t)) (twice c 1))
 
-  pub look_again : (c : Cursor) {t : Token} {d : Cursor} → look_ahead s c 0 ≡ Seen t d → look_ahead s d 0 ≡ Seen t d
+  pub look_again : (c : Cursor) {t : Token} {d : Cursor} → look_ahead s c 0 ≡ (Some t, d) → look_ahead s d 0 ≡ (Some t, d)
   look_again c {t} {d} x =
       let g = saw s c x in
       let p = add-zero c.place in
-      subst (λ (z : Cursor). look_ahead s z 0 ≡ Seen t z) (sym g.cursor)
-      (look_token s (read_ahead s c 1) 0 (λ q. g.real (sym (ap (kind s) p) ∙ q)) ∙ ap (λ (z : Token). Seen z (read_ahead s (read_ahead s c 1) 1)) (ap (token_at s) p ∙ sym g.token) ∙ ap (Seen t) (twice c 1))
+      subst (λ (z : Cursor). look_ahead s z 0 ≡ (Some t, z)) (sym g.cursor)
+      (look_token s (read_ahead s c 1) 0 (λ q. g.real (sym (ap (kind s) p) ∙ q)) ∙ ap (λ (z : Token). looked_at (Some z) (read_ahead s (read_ahead s c 1) 1)) (ap (token_at s) p ∙ sym g.token) ∙ ap (looked_at (Some t)) (twice c 1))
 
-  pub end_again : (c : Cursor) {d : Cursor} → look_ahead s c 0 ≡ End d → look_ahead s d 0 ≡ End d
+  pub end_again : (c : Cursor) {d : Cursor} → look_ahead s c 0 ≡ (None, d) → look_ahead s d 0 ≡ (None, d)
   end_again c {d} x =
       let g = ran_out s c x in
-      subst (λ (z : Cursor). look_ahead s z 0 ≡ End z) (sym g.cursor) (look_end s (read_ahead s c 1) 0 (ap (kind s) (add-zero c.place) ∙ g.end) ∙ ap End (twice c 1))
+      subst (λ (z : Cursor). look_ahead s z 0 ≡ (None, z)) (sym g.cursor) (look_end s (read_ahead s c 1) 0 (ap (kind s) (add-zero c.place) ∙ g.end) ∙ ap (looked_at None) (twice c 1))
 
   -- a production that takes the next token, or chooses by it, reads the same after a look at it
   module _ (rank : Ranks) (limit : ℕ) (R : Readers) (h : Held) (A : Reader) (p m : ℕ) where
@@ -77,22 +76,22 @@ module _ (s : List ℕ) where
 
   -- taking is getting, and then taking
   module _ (c : Cursor) where
-    pub take_fails : {e : Refusal} → take_next s c ≡ Fail e → get_next s c ≡ Fail e
+    pub take_fails : {e : Refusal} {d : Cursor} → take_next s c ≡ (Err e, d) → get_next s c ≡ (Err e, d)
     take_fails {e} x =
         by_cases (ℕ_discrete (kind s c.place) 59)
         (λ q. get_end s c q ∙ sym (take_end s c q) ∙ x)
-        (λ n. let z : ◌≡◌ {A = ℕ} 0 1 = cc (take_token s c n, x) in absurd (omega arith))
+        (λ n. never (take_next s c) (take_token s c n) x)
 
-    pub take_gets : {t : Token} {d : Cursor} → take_next s c ≡ Took t d → get_next s c ≡ Took t (read_ahead s c 1)
-    take_gets {t} x = let a = took_next s c x in get_token s c a.real ∙ ap (λ (z : Token). Took z (read_ahead s c 1)) (sym a.token)
+    pub take_gets : {t : Token} {d : Cursor} → take_next s c ≡ (Ok t, d) → get_next s c ≡ (Ok t, read_ahead s c 1)
+    take_gets {t} x = let a = took_next s c x in get_token s c a.real ∙ ap (λ (z : Token). answered (Ok z) (read_ahead s c 1)) (sym a.token)
 
-    pub take_takes : {t : Token} {d : Cursor} → take_next s c ≡ Took t d → take_next s (read_ahead s c 1) ≡ Took t d
+    pub take_takes : {t : Token} {d : Cursor} → take_next s c ≡ (Ok t, d) → take_next s (read_ahead s c 1) ≡ (Ok t, d)
     take_takes {t} {d} x =
         let a = took_next s c x in
-        take_token s (read_ahead s c 1) a.real ∙ ap (λ (z : Cursor). Took (token_at s c.place) (passed z)) (twice c 1) ∙ sym (take_token s c a.real) ∙ x
+        take_token s (read_ahead s c 1) a.real ∙ ap (λ (z : Cursor). answered (Ok (token_at s c.place)) (passed z)) (twice c 1) ∙ sym (take_token s c a.real) ∙ x
 
   -- a refusal of the token that was got
-  pub refused : (rank : Ranks) (limit : ℕ) (R : Readers) (h : Held) (A : Reader) (c : Cursor) {t : Token} {d : Cursor} (code : ℕ) → get_next s c ≡ Took t d
+  pub refused : (rank : Ranks) (limit : ℕ) (R : Readers) (h : Held) (A : Reader) (c : Cursor) {t : Token} {d : Cursor} (code : ℕ) → get_next s c ≡ (Ok t, d)
       → read s rank limit R h (refuse code) A d.place d.mark ≡ fail (record { number = 1; line = t.line; found = d.place; expected = code })
   unfolding read
   refused rank limit R h A c {t} {d} code x =
@@ -130,17 +129,17 @@ module _ (s : List ℕ) (rank : Ranks) (limit : ℕ) (R : Readers) (h : Held) (A
   picked d true a b b' e = refl
   picked d false a b b' e = e
 
-  chosen : (c : Cursor) {t : Token} {d : Cursor} → get_next s c ≡ Took t d → (r : Row) (rs : List Row) (e : Term) → From c (choice (r ∷ rs) e) ≡ From d (pick (r ∷ rs) e t.kind)
+  chosen : (c : Cursor) {t : Token} {d : Cursor} → get_next s c ≡ (Ok t, d) → (r : Row) (rs : List Row) (e : Term) → From c (choice (r ∷ rs) e) ≡ From d (pick (r ∷ rs) e t.kind)
   chosen c {t} {d} x r [] e = next_is s rank limit R h A c (r.0 ∷ []) r.1 e x ∙ picked d (member t.kind (r.0 ∷ [])) r.1 e e refl
   chosen c {t} {d} x r (r' ∷ rs) e =
       next_is s rank limit R h A c (r.0 ∷ []) r.1 (choice (r' ∷ rs) e) x
       ∙ picked d (member t.kind (r.0 ∷ [])) r.1 (choice (r' ∷ rs) e) (pick (r' ∷ rs) e t.kind) (chosen d (got_again s c x) r' rs e)
 
   -- there is no token; it is of a kind that has a production of its own; it is of none of them
-  pub by_none : (c : Cursor) (r : Row) (rs : List Row) (e : Term) {f : Refusal} → get_next s c ≡ Fail f → From c (choice (r ∷ rs) e) ≡ fail f
+  pub by_none : (c : Cursor) (r : Row) (rs : List Row) (e : Term) {f : Refusal} {d : Cursor} → get_next s c ≡ (Err f, d) → From c (choice (r ∷ rs) e) ≡ fail f
   by_none c r rs e x = next_fail s rank limit R h A c (r.0 ∷ []) r.1 (choice rs e) x
 
-  module _ (c : Cursor) (r : Row) (rs : List Row) (e : Term) {t : Token} {d : Cursor} (x : get_next s c ≡ Took t d) where
+  module _ (c : Cursor) (r : Row) (rs : List Row) (e : Term) {t : Token} {d : Cursor} (x : get_next s c ≡ (Ok t, d)) where
     pub by_kind : {k : ℕ} → t.kind ≡ k → From c (choice (r ∷ rs) e) ≡ From d (pick (r ∷ rs) e k)
     by_kind q = chosen c x r rs e ∙ ap (λ (z : ℕ). From d (pick (r ∷ rs) e z)) q
 
@@ -155,31 +154,3 @@ placed (fail e) = 0
 pub looks_on : (s : List ℕ) (k : Ranking) (g : ℕ) (c : Cursor) {q : Note} {low used more : ℕ} {n n' : List ℕ} {d : Cursor} {u v : ℕ} → Fine s q low used more n n' (says s k g look c) d u v → c.place ≡ d.place
 unfolding read
 looks_on s k g c f = ap placed f.says
-
--- a token of a kind that was expected, as an answer: by itself; and after so many of a list
-module _ (s : List ℕ) (rank : Ranks) (limit : ℕ) (R : Readers) (h : Held) (A : Reader) (c : Cursor) (k : ℕ) (real : eqb k 59 ≡ false) (small : expecting k ≡ k + 1) (formed : Formed s) where
-  abbrev Word : Out
-  Word = read s rank limit R h (word k) A c.place c.mark
-
-  pub expect_meets : (n : List ℕ) (used more : ℕ) → used ≤ 4 * c.place + (4 + more) → (r : Step) → r ≡ stepped used (expect_next s c k) → Meets s c.note (c.place + 1) used more n n Word r
-  expect_meets n used more l r e = subst (Meets s c.note (c.place + 1) used more n n Word) (sym e) (go (expect_next s c k) refl)
-    where
-      go : (x : Next) → expect_next s c k ≡ x → Meets s c.note (c.place + 1) used more n n Word (stepped used x)
-      go (Took t d) q = word_fine s rank limit R h A c n used more formed l k real small q
-      go (Fail z) q = word_fail s rank limit R h A c k real small q
-
-  pub counted_sums : {q : Note} {low used more : ℕ} {n n' : List ℕ} {o : Out} {rest : Reader} {u v : ℕ} (start low' more' : ℕ) → Going s q low used more n n' o rest c u v → rest c.place c.mark ≡ Word
-      → low' ≤ c.place + 1 → u ≤ 4 * c.place + (4 + more') → v + 2 * start ≤ 2 * c.place → (r : Sum) → r ≡ counting u v (expect_next s c k) → Sums s q start low' used more' n n' o r
-  counted_sums {q = q} {used = used} {n = n} {n' = n'} {o = o} {u = u} {v = v} start low' more' g e l m b r x = subst (Sums s q start low' used more' n n' o) (sym x) (go (expect_next s c k) refl)
-    where
-      go : (x : Next) → expect_next s c k ≡ x → Sums s q start low' used more' n n' o (counting u v x)
-      go (Took t d) y =
-          let w = word_fine s rank limit R h A c n' u more' formed m k real small y in
-          (lower low' (revalue (omega arith) (ends g (alter e w) (omega arith))) (omega (arith, w.later)), omega (arith, w.later))
-      go (Fail z) y = fails g (e ∙ word_fail s rank limit R h A c k real small y)
-
--- the same, after a part that was read
-pub expect_after : (s : List ℕ) (rank : Ranks) (limit : ℕ) (R : Readers) (h : Held) (A : Reader) {q : Note} {low used more : ℕ} {n n' : List ℕ} {o : Out} {c : Cursor} {u v : ℕ} → Fine s q low used more n n' o c u v
-    → (k : ℕ) → eqb k 59 ≡ false → expecting k ≡ k + 1 → Formed s → (more' : ℕ) → more ≤ 4 + more' → (r : Step) → r ≡ stepped u (expect_next s c k)
-    → Meets s c.note (c.place + 1) u more' n' n' (read s rank limit R h (word k) A c.place c.mark) r
-expect_after s rank limit R h A {n' = n'} {c = c} {u = u} f k real small formed more' l r e = expect_meets s rank limit R h A c k real small formed n' u more' (omega (arith, f.room)) r e

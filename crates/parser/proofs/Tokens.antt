@@ -12,21 +12,16 @@ use Rattle.stream.specs.Reader.{expecting, take_next, expect_next, expect_name}
 use Rattle.stream.specs.declared.reader.Cursor.{Cursor}
 use Rattle.stream.specs.declared.reader.Token.{Token}
 use Rattle.stream.specs.declared.reader.Refusal.{Refusal}
-use Rattle.stream.specs.declared.reader.Next.TheVariants.{Took, Fail}
-use Rattle.stream.proofs.Words.{token_next}
+use Rattle.std.specs.Prelude.{Ok, Err}
 use Rattle.operators.specs.Ranks.{Ranks}
 use Rattle.tree.specs.Forest.{none, tree, words}
 use Rattle.grammar.specs.Term.{Term, any, leaf, weigh, ◌⨾◌}
 use Rattle.grammar.specs.Reading.{Out, fine, fail, Reader, Readers, Held, read}
 use Rattle.grammar.specs.Productions.{word, named}
 use Rattle.quarrel.proofs.Added.{noted_tree}
-use Rattle.parser.specs.Contract.{Ready, Fine, Ordinary}
+use Rattle.parser.specs.Contract.{Fine, Ordinary}
 use Rattle.parser.proofs.Steps.{taken, Advanced, took_next, took_kind, took_name, word_is, any_is, name_is}
 use Rattle.parser.proofs.Kit.{passed, both}
-
--- what may be relied on after a token
-pub ready_after : {s : List ℕ} {c d : Cursor} {t : Token} {used slack : ℕ} → Formed s → Advanced s c t d → used ≤ 4 * c.place + (4 + slack) → Ready s d used slack
-ready_after {s} {c} f a r = let x = token_next s f c.place a.real in record { formed = f; at = omega (arith, a.place); room = omega (arith, a.place) }
 
 -- the payload of the token just taken
 pub paid : {s : List ℕ} {c d : Cursor} {t : Token} → Advanced s c t d → t.payload ≡ payload s (d.place - 1)
@@ -37,31 +32,31 @@ module _ (s : List ℕ) (rank : Ranks) (limit : ℕ) (R : Readers) (h : Held) (A
   Reads e = read s rank limit R h e A c.place c.mark
 
   -- any token, a name, a token of a kind: none is there
-  pub any_fail : {e : Refusal} → take_next s c ≡ Fail e → Reads any ≡ fail e
+  pub any_fail : {e : Refusal} {d : Cursor} → take_next s c ≡ (Err e, d) → Reads any ≡ fail e
   any_fail x = any_is s rank limit R h A c ∙ ap taken x
 
-  pub name_fail : {e : Refusal} → expect_name s c ≡ Fail e → Reads named ≡ fail e
+  pub name_fail : {e : Refusal} {d : Cursor} → expect_name s c ≡ (Err e, d) → Reads named ≡ fail e
   name_fail x = name_is s rank limit R h A c ∙ ap taken x
 
-  pub word_fail : {e : Refusal} (k : ℕ) → eqb k 59 ≡ false → expecting k ≡ k + 1 → expect_next s c k ≡ Fail e → Reads (word k) ≡ fail e
+  pub word_fail : {e : Refusal} {d : Cursor} (k : ℕ) → eqb k 59 ≡ false → expecting k ≡ k + 1 → expect_next s c k ≡ (Err e, d) → Reads (word k) ≡ fail e
   word_fail k r q x = word_is s rank limit R h A c k r q ∙ ap taken x
 
   -- it was taken: what that reads; what it leaves
   module _ {t : Token} {d : Cursor} where
-    pub any_says : take_next s c ≡ Took t d → Reads any ≡ fine d.place d.mark none 0
+    pub any_says : take_next s c ≡ (Ok t, d) → Reads any ≡ fine d.place d.mark none 0
     any_says x = any_is s rank limit R h A c ∙ ap taken x
 
-    pub name_says : expect_name s c ≡ Took t d → Reads named ≡ fine d.place d.mark none 0
+    pub name_says : expect_name s c ≡ (Ok t, d) → Reads named ≡ fine d.place d.mark none 0
     name_says x = name_is s rank limit R h A c ∙ ap taken x
 
     module _ (n : List ℕ) (used more : ℕ) (f : Formed s) (l : used ≤ 4 * c.place + (4 + more)) where
-      pub any_fine : take_next s c ≡ Took t d → Fine s c.note (c.place + 1) used more n n (Reads any) d used 0
+      pub any_fine : take_next s c ≡ (Ok t, d) → Fine s c.note (c.place + 1) used more n n (Reads any) d used 0
       any_fine x = passed n used more f (took_next s c x) (any_says x) l
 
-      pub name_fine : expect_name s c ≡ Took t d → Fine s c.note (c.place + 1) used more n n (Reads named) d used 0
+      pub name_fine : expect_name s c ≡ (Ok t, d) → Fine s c.note (c.place + 1) used more n n (Reads named) d used 0
       name_fine x = passed n used more f (took_name s c x) (name_says x) l
 
-      pub word_fine : (k : ℕ) → eqb k 59 ≡ false → expecting k ≡ k + 1 → expect_next s c k ≡ Took t d → Fine s c.note (c.place + 1) used more n n (Reads (word k)) d used 0
+      pub word_fine : (k : ℕ) → eqb k 59 ≡ false → expecting k ≡ k + 1 → expect_next s c k ≡ (Ok t, d) → Fine s c.note (c.place + 1) used more n n (Reads (word k)) d used 0
       word_fine k r q x = passed n used more f (took_kind s c k x) (word_is s rank limit R h A c k r q ∙ ap taken x) l
 
   -- a leaf of the token just taken; its payload as a weight

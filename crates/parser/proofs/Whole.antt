@@ -1,9 +1,11 @@
 -- The whole stream: what the reading of it answers, and the promise of the public calls. Assumes nothing.
 use mathlib.Core.Path.{◌≡◌, refl, sym, ap, ◌∙◌, subst}
-use mathlib.Core.Bool.{false}
+use mathlib.Core.Bool.{true, false}
 use mathlib.Core.List.{List}
 use Prim.Native.Nat.{ℕ, ◌*◌, ◌≤◌, ◌<◌}
 use native.Mathlib.Omega.{arith}
+use Rattle.std.specs.Prelude.{Option, Some, None}
+use Rattle.std.specs.Option.{is_some}
 use lib.ListN.{length}
 use lib.Seq.{sets}
 use borrow.Author.Tests.{eq-eqb, ne_eqb}
@@ -13,43 +15,27 @@ use Rattle.stream.specs.declared.reader.Cursor.{Cursor}
 use Rattle.stream.specs.declared.reader.Note.{Note}
 use Rattle.stream.specs.declared.reader.Token.{Token}
 use Rattle.stream.specs.declared.reader.Refusal.{Refusal}
-use Rattle.stream.specs.declared.reader.Look.TheVariants.{Seen, End}
 use Rattle.stream.proofs.Judged.{formed_not_malformed, malformed_once}
 use Rattle.operators.specs.Ranks.{ranks}
 use Rattle.operators.specs.declared.Ranking.{Ranking}
 use Rattle.tree.specs.Forest.{Forest, none, size, flat}
 use Rattle.tree.proofs.Lay.{lay_whole}
 use Rattle.grammar.specs.Grammar.{Chunk}
-use Rattle.grammar.specs.Reading.{Out, fine, fail, hold, loop, read}
+use Rattle.grammar.specs.Reading.{fine, fail, hold, loop, read}
 use Rattle.grammar.specs.Productions.{block, retstat, explist}
 use Rattle.grammar.specs.Levels.{readers, finish, chunk}
-use Rattle.grammar.proofs.Tests.{yes_case, no_case}
+use Rattle.grammar.proofs.Tests.{wrong, yes_case, no_case}
 use Rattle.grammar.proofs.Theorems.{sound, unique, is_ranked}
 use Rattle.grammar.proofs.Sides.{refused_none}
-use Rattle.quarrel.specs.Notes.{NONE, Names, note, noted}
+use Rattle.quarrel.specs.Notes.{Names, note, noted}
 use Rattle.quarrel.proofs.Notes.{first_noted}
-use Rattle.parser.specs.Contract.{Fine, Meets, says}
-use Rattle.parser.specs.declared.Step.{Step}
-use Rattle.parser.specs.declared.Step.TheVariants as Step·
+use Rattle.parser.specs.Contract.{Fine, says}
 use Rattle.parser.specs.Answered.{Answered, Noted, refusing, counting, Zeroed}
 use Rattle.parser.proofs.Steps.{saw, ran_out}
 use Rattle.parser.proofs.Around.{settled}
 
 abbrev pub start : Cursor
-start = record { place = 0; mark = 0; note = note false NONE NONE }
-
--- what was met, by the answer that came
-module _ (s : List ℕ) (b : Note) (low used more : ℕ) (n n' : List ℕ) where
-  pub failed : (o : Out) (r : Step) {e : Refusal} → Meets s b low used more n n' o r → r ≡ Step·.Fail e → o ≡ fail e
-  failed o (Step·.Done c u) m q = let z : ◌≡◌ {A = ℕ} 0 1 = cc in absurd (omega arith)
-  failed o (Step·.Fail x) {e} m q = let z : x ≡ e = cc in m ∙ ap fail z
-
-  pub done : (o : Out) (r : Step) {c : Cursor} {u : ℕ} → Meets s b low used more n n' o r → r ≡ Step·.Done c u → Fine s b low used more n n' o c u 0
-  done o (Step·.Done d w) {c} {u} m q =
-      let x : d ≡ c = cc in
-      let y : w ≡ u = cc in
-      subst (λ (z : Cursor). Fine s b low used more n n' o z u 0) x (subst (λ (z : ℕ). Fine s b low used more n n' o d z 0) y m)
-  done o (Step·.Fail x) m q = let z : ◌≡◌ {A = ℕ} 0 1 = cc in absurd (omega arith)
+start = record { place = 0; mark = 0; note = note false None None }
 
 module _ (s : List ℕ) (k : Ranking) where
   -- the chunk is a block, and nothing after it
@@ -60,8 +46,8 @@ module _ (s : List ℕ) (k : Ranking) where
   pub block_fails : {e : Refusal} → says s k 199 block start ≡ fail e → chunk s (ranks k) 199 ≡ fail e
   block_fails x = chunk_block ∙ ap (finish s) x
 
-  module _ {n n' : List ℕ} {c d : Cursor} {u : ℕ} (f : Fine s (note false NONE NONE) 0 0 1 n n' (says s k 199 block start) c u 0) where
-    pub chunk_ends : look_ahead s c 0 ≡ End d → Fine s (note false NONE NONE) 0 0 1 n n' (chunk s (ranks k) 199) d u 0
+  module _ {n n' : List ℕ} {c d : Cursor} {u : ℕ} (f : Fine s (note false None None) 0 0 1 n n' (says s k 199 block start) c u 0) where
+    chunk_ends : look_ahead s c 0 ≡ (None, d) → Fine s (note false None None) 0 0 1 n n' (chunk s (ranks k) 199) d u 0
     chunk_ends x =
         let r = ran_out s c x in
         let p : d.place ≡ c.place = ap (λ (z : Cursor). z.place) r.cursor in
@@ -76,11 +62,20 @@ module _ (s : List ℕ) (k : Ranking) where
           noted = ap (λ (z : Cursor). z.note) r.cursor ∙ f.noted;
         }
 
-    pub chunk_left : {t : Token} → look_ahead s c 0 ≡ Seen t d → chunk s (ranks k) 199 ≡ fail (record { number = 2; line = told s d.mark; found = 0; expected = 0 })
+    chunk_left : {t : Token} → look_ahead s c 0 ≡ (Some t, d) → chunk s (ranks k) 199 ≡ fail (record { number = 2; line = told s d.mark; found = 0; expected = 0 })
     chunk_left x =
         let g = saw s c x in
         chunk_block ∙ ap (finish s) f.says ∙ no_case _ _ _ (ne_eqb _ _ g.real)
         ∙ sym (ap (λ (z : Cursor). fail (record { number = 2; line = told s z.mark; found = 0; expected = 0 })) g.cursor)
+
+    -- what a look behind the block comes to
+    pub chunk_over : (o : Option Token) → (o, d) ≡ look_ahead s c 0 → false ≡ is_some o → Fine s (note false None None) 0 0 1 n n' (chunk s (ranks k) 199) d u 0
+    chunk_over None x y = chunk_ends (sym x)
+    chunk_over (Some t) x y = wrong y
+
+    pub chunk_more : (o : Option Token) → (o, d) ≡ look_ahead s c 0 → true ≡ is_some o → chunk s (ranks k) 199 ≡ fail (record { number = 2; line = told s d.mark; found = 0; expected = 0 })
+    chunk_more None x y = wrong (sym y)
+    chunk_more (Some t) x y = chunk_left (sym x)
 
   -- where the reading accepts, its own tree alone is derived
   its_own : {p m v : ℕ} {t u : Forest} → chunk s (ranks k) 199 ≡ fine p m t v → Chunk s (ranks k) 199 u → t ≡ u
@@ -126,17 +121,17 @@ module _ (s : List ℕ) (k : Ranking) where
           }
 
   -- the first that quarrels
-  pub noted_malformed : {p : ℕ} → Malformed s p → Noted s k NONE
+  pub noted_malformed : {p : ℕ} → Malformed s p → Noted s k None
   noted_malformed b = record { derived = λ t f. absurd (formed_not_malformed f b); underived = λ n. refl; unformed = λ p m. refl }
 
-  pub noted_refused : {e : Refusal} → chunk s (ranks k) 199 ≡ fail e → Noted s k NONE
+  pub noted_refused : {e : Refusal} → chunk s (ranks k) 199 ≡ fail e → Noted s k None
   noted_refused x = record { derived = λ t f d. absurd (refused_none s k 199 x t d); underived = λ n. refl; unformed = λ p m. refl }
 
-  pub noted_read : (c : Cursor) {t : Forest} {first : ℕ} → Formed s → chunk s (ranks k) 199 ≡ fine c.place c.mark t 0 → c.note ≡ noted s t (note false NONE NONE) → first ≡ c.note.found → Noted s k first
+  pub noted_read : (c : Cursor) {t : Forest} {first : Option ℕ} → Formed s → chunk s (ranks k) 199 ≡ fine c.place c.mark t 0 → c.note ≡ noted s t (note false None None) → first ≡ c.note.found → Noted s k first
   noted_read c {t = t} f x q e =
       record {
-        derived = λ u g d. subst (Names s u) (sym (e ∙ ap (λ (z : Note). z.found) q ∙ ap (λ (z : Forest). (noted s z (note false NONE NONE)).found) (its_own x d)))
-            (first_noted s f (ranks k) 199 (is_ranked k) d);
+        derived = λ u g d. subst (Names s u) (sym (e ∙ ap (λ (z : Note). z.found) q ∙ ap (λ (z : Forest). (noted s z (note false None None)).found) (its_own x d)))
+            (first_noted s (ranks k) 199 (is_ranked k) d);
         underived = λ n. absurd (n t (sound s (ranks k) 199 (is_ranked k) x));
         unformed = λ p b. absurd (formed_not_malformed f b);
       }

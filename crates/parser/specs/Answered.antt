@@ -1,5 +1,5 @@
 -- What a reading promises of its five numbers and of every word of the node array, for any words. Assumes nothing: these are definitions.
-use Rattle.std.specs.Prelude.{◌≡◌, List, ◌++◌, ℕ, ◌*◌, ◌≤◌, ◌<◌, length, drop, replicate}
+use Rattle.std.specs.Prelude.{◌≡◌, Option, None, List, ◌++◌, ℕ, ◌*◌, ◌≤◌, ◌<◌, length, drop, replicate}
 use Rattle.stream.specs.Formed.{Formed, Malformed}
 use Rattle.stream.specs.declared.reader.Refusal.{Refusal}
 use Rattle.operators.specs.Ranks.{ranks}
@@ -8,7 +8,7 @@ use Rattle.tree.specs.Forest.{Forest, size, flat}
 use Rattle.grammar.specs.Grammar.{Chunk}
 use Rattle.grammar.specs.Reading.{fail}
 use Rattle.grammar.specs.Levels.{chunk}
-use Rattle.quarrel.specs.Notes.{NONE, Names}
+use Rattle.quarrel.specs.Notes.{Names}
 use Rattle.parser.specs.declared.Answer.{Answer}
 
 -- 01's numbers of a refusal, and of what is told by a count of words alone
@@ -31,7 +31,7 @@ pub record Answered (s : List ℕ) (r : Ranking) (n n' : List ℕ) (a : Answer) 
   pub refuses : (e : Refusal) → Formed s → ((t : Forest) → Chunk s (ranks r) 199 t → ⊥) → chunk s (ranks r) 199 ≡ fail e → (a ≡ refusing e) × Zeroed n n'
 
 -- the first token that quarrels in the tree that is derived, or that none does; none, too, where none is derived or the stream is malformed
-pub record Noted (s : List ℕ) (r : Ranking) (first : ℕ) : Type 0 where
+pub record Noted (s : List ℕ) (r : Ranking) (first : Option ℕ) : Type 0 where
   pub derived : (t : Forest) → Formed s → Chunk s (ranks r) 199 t → Names s t first
-  pub underived : ((t : Forest) → Chunk s (ranks r) 199 t → ⊥) → first ≡ NONE
-  pub unformed : (p : ℕ) → Malformed s p → first ≡ NONE
+  pub underived : ((t : Forest) → Chunk s (ranks r) 199 t → ⊥) → first ≡ None
+  pub unformed : (p : ℕ) → Malformed s p → first ≡ None

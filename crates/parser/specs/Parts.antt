@@ -2,8 +2,8 @@
 use Rattle.std.specs.Prelude.{[], ◌∷◌}
 use Rattle.stream.specs.Kinds.{Do, Else, ElseIf, End, In, Return, Then, Until, Assign, Dot, SemiColon, Colon, Comma, RightParen, RightBracket, RightBrace, EndOfStream}
 use Rattle.grammar.specs.Term.{Term, ahead, next, check, unlined, here, target, many, until, opt, ◌⇒◌∣◌}
-use Rattle.grammar.specs.Term.{empty, any, leaf, weigh, coded, plus, operand, stat, ◌⨾◌, on, node, kept, iter, again}
-use Rattle.grammar.specs.Productions.{word, named, nameleaf, expr, explist, block, args, field, suffixed}
+use Rattle.grammar.specs.Term.{empty, any, weigh, coded, plus, operand, stat, ◌⨾◌, on, node, kept, iter, again}
+use Rattle.grammar.specs.Productions.{word, named, nameleaf, expr, explist, block, retstat, args, field, suffixed}
 
 -- {stat}
 abbrev pub stats : Term
@@ -16,6 +16,22 @@ arm = expr ⨾ word Then ⨾ block
 abbrev pub arms : Term
 arms = many check (ElseIf ∷ []) (any ⨾ plus 2 ⨾ arm)
 
+-- [else block]; [retstat]; [explist] of a return; ['=' explist]; [explist] before a ')'
+abbrev pub otherwise : Term
+otherwise = opt check (Else ∷ []) (any ⨾ plus 1 ⨾ block)
+
+abbrev pub returns : Term
+returns = opt ahead (Return ∷ []) (plus 1 ⨾ retstat)
+
+abbrev pub values : Term
+values = on ahead (EndOfStream ∷ End ∷ SemiColon ∷ Else ∷ ElseIf ∷ Until ∷ []) empty (explist 1)
+
+abbrev pub initial : Term
+initial = opt check (Assign ∷ []) (any ⨾ explist 0)
+
+abbrev pub listed : Term
+listed = RightParen ⇒ empty ∣ explist 1
+
 -- block end; do block end
 abbrev pub ended : Term
 ended = block ⨾ word End
@@ -23,19 +39,19 @@ ended = block ⨾ word End
 abbrev pub body : Term
 body = word Do ⨾ ended
 
--- exp [',' exp] do block end; '=' exp ',' exp [',' exp] do block end, whose value is the name before it
-abbrev pub upto : Term
-upto = expr ⨾ opt check (Comma ∷ []) (any ⨾ expr) ⨾ body
+-- [',' exp]; '=' exp ',' exp [',' exp] do block end
+abbrev pub step : Term
+step = opt check (Comma ∷ []) (any ⨾ expr)
 
 abbrev pub numeric : Term
-numeric = weigh ⨾ any ⨾ expr ⨾ word Comma ⨾ upto
+numeric = any ⨾ expr ⨾ word Comma ⨾ expr ⨾ step ⨾ body
 
--- {',' Name}; Name {',' Name} in explist do block end, after its first name
+-- {',' Name}; {',' Name} in explist do block end
 abbrev pub names : Term
 names = many check (Comma ∷ []) (any ⨾ nameleaf ⨾ plus 1)
 
 abbrev pub generic : Term
-generic = leaf 30 ⨾ plus 1 ⨾ names ⨾ word In ⨾ explist 0 ⨾ body
+generic = names ⨾ word In ⨾ explist 0 ⨾ body
 
 -- {'.' Name} [':' Name]
 abbrev pub fieldnames : Term
@@ -67,7 +83,7 @@ call = node 34 here unlined (args 1)
 
 -- '(' [explist] ')'
 abbrev pub list : Term
-list = any ⨾ (RightParen ⇒ empty ∣ explist 1) ⨾ word RightParen
+list = any ⨾ listed ⨾ word RightParen
 
 -- [fieldlist] '}'; the three fields
 abbrev pub fields : Term

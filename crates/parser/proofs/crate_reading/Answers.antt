@@ -1,5 +1,0 @@
--- `crate_reading` meets its contract.
-use Rattle.parser.proofs.crate_reading.Goals as goal
-
-pub returns : goal.returns
-returns c = c.reading-r.ensures.0
