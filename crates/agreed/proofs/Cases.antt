@@ -6,6 +6,7 @@ use mathlib.Core.Logic.{◌⊎◌, inl, inr, by_cases}
 use Prim.Native.Nat.{ℕ, ◌≤◌, ◌<◌}
 use native.Mathlib.Decide.{ℕ_discrete}
 use native.Mathlib.Omega.{arith}
+use Rattle.std.specs.Prelude.{Option, Some, None}
 use lib.ListN.{replicate}
 use borrow.Author.Tests.{eq-eqb, ne_eqb}
 use Rattle.stream.specs.Formed.{Formed}
@@ -15,13 +16,11 @@ use Rattle.tree.specs.Forest.{Forest}
 use Rattle.grammar.specs.Member.{member}
 use Rattle.grammar.specs.Grammar.{Chunk}
 use Rattle.grammar.proofs.Tests.{wrong}
-use Rattle.quarrel.specs.Rule.{Quarrelling, First}
-use Rattle.quarrel.specs.Notes.{NONE, Names}
 use Rattle.quarrel.proofs.Trees.{quiet, differ}
 use Rattle.parser.specs.declared.Answer.{Answer}
 use Rattle.parser.specs.Answered.{Answered, Noted, Zeroed}
 use Rattle.agreed.specs.Agreed.{Agreed, quarrelling}
-use Rattle.agreed.proofs.Places.{below, once}
+use Rattle.agreed.proofs.Places.{once}
 use Rattle.agreed.proofs.Readings.{accepted, declined, kept}
 
 -- a tree was derived, and handed over or counted; none was
@@ -50,34 +49,34 @@ not_few : (a : Answer) → Took a → (0 < a.number) × (a.number ≤ 5) → ⊥
 not_few a (inl e) h = omega arith
 not_few a (inr e) h = omega arith
 
-module _ (s : List ℕ) (n n₁ : List ℕ) (a : Answer) (first : ℕ) (A1 : Answered s Crate n n₁ a) (N : Noted s Crate first) where
+-- one that is there is not none
+some_none : {A : Type 0} {i : ℕ} → ◌≡◌ {A = Option ℕ} (Some i) None → A
+some_none e = let z : ◌≡◌ {A = ℕ} 0 1 = cc e in absurd (omega (arith, z))
+
+module _ (s : List ℕ) (n n₁ : List ℕ) (a : Answer) (A1 : Answered s Crate n n₁ a) where
   -- none quarrels: the manual's ranking derives what the crate's does, and that reading is all
-  pub agree : first ≡ NONE → Agreed s n n₁ a
-  agree nil =
+  pub agree : Noted s Crate None → Agreed s n n₁ a
+  agree N =
       record {
         malformed = λ p m. A1.malformed p m;
         agrees = λ t f c d k. A1.accepts t f c k;
         short = λ t f c d k. A1.short t f c k;
-        differs = λ t u i f c d ne q. absurd (silent t f (N.derived t f c) i q.quarrelling);
+        differs = λ t u i f c d ne q. absurd (N.derived t f c i q.quarrelling);
         refuses = λ e f none x. A1.refuses e f none x;
-        deeper = λ t e f c none x. absurd (none t (quiet s 199 c (silent t f (N.derived t f c))));
+        deeper = λ t e f c none x. absurd (none t (quiet s 199 c (N.derived t f c)));
       }
-    where
-      silent : (t : Forest) → Formed s → Names s t first → (i : ℕ) → ¬ Quarrelling s t i
-      silent t f (inl x) = x.1
-      silent t f (inr x) = let k = below s f x.quarrelling in absurd (omega arith)
 
   -- one quarrels, so a tree was derived
-  module _ (some : first ≡ NONE → ⊥) (n₂ : List ℕ) (b : Answer) (A2 : Answered s Manual n₁ n₂ b) where
+  module _ (first : ℕ) (N : Noted s Crate (Some first)) (n₂ : List ℕ) (b : Answer) (A2 : Answered s Manual n₁ n₂ b) where
     -- not derived under the manual's ranking: what the manual reading tells
     pub manual_refuses : Left b → Agreed s n n₂ b
     manual_refuses l =
         record {
-          malformed = λ p m. absurd (some (N.unformed p m));
+          malformed = λ p m. some_none (N.unformed p m);
           agrees = λ t f c d k. absurd (no f d);
           short = λ t f c d k. absurd (no f d);
           differs = λ t u i f c d ne q. absurd (no f d);
-          refuses = λ e f none x. absurd (some (N.underived none));
+          refuses = λ e f none x. some_none (N.underived none);
           deeper = λ t e f c none x. let z = A2.refuses e f none x in (z.0, z.1 ∙ ap (λ (k : ℕ). replicate k 0) (kept s Crate A1));
         }
       where
@@ -88,17 +87,13 @@ module _ (s : List ℕ) (n n₁ : List ℕ) (a : Answer) (first : ℕ) (A1 : Ans
     pub quarrel : Took b → (n₃ : List ℕ) → Zeroed n n₃ → Agreed s n n₃ (quarrelling s first)
     quarrel took n₃ z =
         record {
-          malformed = λ p m. absurd (some (N.unformed p m));
+          malformed = λ p m. some_none (N.unformed p m);
           agrees = λ t f c d k. absurd (no f c d);
           short = λ t f c d k. absurd (no f c d);
-          differs = λ t u i f c d ne q. (ap (quarrelling s) (once s (that (N.derived t f c)) q), z);
-          refuses = λ e f none x. absurd (some (N.underived none));
+          differs = λ t u i f c d ne q. (ap (quarrelling s) (once s (N.derived t f c) q), z);
+          refuses = λ e f none x. some_none (N.underived none);
           deeper = λ t e f c none x. absurd (not_few b took (declined s Manual A2 f x));
         }
       where
-        that : {t : Forest} → Names s t first → First s t first
-        that (inl x) = absurd (some x.0)
-        that (inr x) = x
-
         no : {t : Forest} → Formed s → Chunk s (ranks Crate) 199 t → Chunk s (ranks Manual) 199 t → ⊥
-        no {t} f c d = (differ s 199 c d).0 refl first (that (N.derived t f c)).quarrelling
+        no {t} f c d = (differ s 199 c d).0 refl first (N.derived t f c).quarrelling

@@ -3,7 +3,7 @@ use mathlib.Core.Path.{◌≡◌, refl, sym, ap, subst}
 use mathlib.Core.Bool.{Bool, true, ◌&&◌}
 use mathlib.Core.List.{List, ◌++◌, map, Memᴰ, head-eq_of_cons-eq, tail-eq_of_cons-eq}
 use mathlib.Core.Logic.{by_cases}
-use mathlib.Core.Option.{Option, some}
+use Rattle.std.specs.Prelude.{Option, Some, None}
 use Prim.Native.Nat.{ℕ, zero, suc, ◌*◌, ◌≤◌, ◌<◌}
 use native.Mathlib.Decide.{dec_lt}
 use native.Mathlib.Nat.{zero-add}
@@ -56,13 +56,13 @@ alone (fine p m t v) = accepted (flat t)
 alone (fail e) = refused e.number e.line e.found e.expected
 
 ruled : List ℕ → Forest → Option ℕ → Due
-ruled s t Option.none = accepted (flat t)
-ruled s t (some i) = refused 8 (line s i) i 0
+ruled s t None = accepted (flat t)
+ruled s t (Some i) = refused 8 (line s i) i 0
 
 both : List ℕ → Out → Out → Due
 both s (fail e) o = alone (fail e)
 both s (fine p m t v) (fail e) = alone (fail e)
-both s (fine p m t v) (fine q k u w) = ruled s t (nested s t Option.none)
+both s (fine p m t v) (fine q k u w) = ruled s t (nested s t None)
 
 tells : Reading → List ℕ → Due
 tells crate s = alone (chunk s (ranks Crate) 199)
@@ -78,17 +78,17 @@ module _ (s : List ℕ) (w : Formed s) (n n' : List ℕ) (a : Answer) where
   one_ranking x (fine p m t v) e = whole t (x.accepts t w (sound s (ranks Crate) 199 (is_ranked Crate) e))
   one_ranking x (fail r) e = x.refuses r w (refused_none s Crate 199 e) e
 
-  by_rule : Agreed s n n' a → {t u : Forest} → Chunk s (ranks Crate) 199 t → Chunk s (ranks Manual) 199 u → (q : Option ℕ) → nested s t Option.none ≡ q → Given (ruled s t q) n n' a
+  by_rule : Agreed s n n' a → {t u : Forest} → Chunk s (ranks Crate) 199 t → Chunk s (ranks Manual) 199 u → (q : Option ℕ) → nested s t None ≡ q → Given (ruled s t q) n n' a
   unfolding ruled
-  by_rule x {t} c d Option.none e = whole t (x.agrees t w c (subst (Chunk s (ranks Manual) 199) (sym ((differ s 199 c d).1 ((found_none s t).0 e))) d))
-  by_rule x {t} {u} c d (some i) e = let h = (found_some s t i).0 e in x.differs t u i w c d (λ z. (differ s 199 c d).0 z i h.quarrelling) h
+  by_rule x {t} c d None e = whole t (x.agrees t w c (subst (Chunk s (ranks Manual) 199) (sym ((differ s 199 c d).1 ((found_none s t).0 e))) d))
+  by_rule x {t} {u} c d (Some i) e = let h = (found_some s t i).0 e in x.differs t u i w c d (λ z. (differ s 199 c d).0 z i h.quarrelling) h
 
   both_rankings : Agreed s n n' a → (o o' : Out) → chunk s (ranks Crate) 199 ≡ o → chunk s (ranks Manual) 199 ≡ o' → Given (both s o o') n n' a
   unfolding alone both
   both_rankings x (fail r) o' e e' = x.refuses r w (refused_none s Crate 199 e) e
   both_rankings x (fine p m t v) (fail r) e e' = x.deeper t r w (sound s (ranks Crate) 199 (is_ranked Crate) e) (refused_none s Manual 199 e') e'
   both_rankings x (fine p m t v) (fine q k u z) e e' =
-      by_rule x (sound s (ranks Crate) 199 (is_ranked Crate) e) (sound s (ranks Manual) 199 (is_ranked Manual) e') (nested s t Option.none) refl
+      by_rule x (sound s (ranks Crate) 199 (is_ranked Crate) e) (sound s (ranks Manual) 199 (is_ranked Manual) e') (nested s t None) refl
 
   -- an answer that keeps the promise is what the function tells
   told : (r : Reading) → Promised r s n n' a → Given (tells r s) n n' a

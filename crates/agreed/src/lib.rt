@@ -8,18 +8,15 @@ ghost use Rattle.agreed.specs.Agreed.{Agreed};
 
 use operators::Ranking;
 use parser::Answer;
-use quarrel::NONE;
+use stream::refusals::Fault;
+
+const QUARREL: u64 = Fault::Quarrel as u64;
 
 // Whether the stream was read: there is a tree, with room or without.
 fn took(a: Answer) -> bool
     ensures { result ≡ member a.number (0 ∷ 7 ∷ []) }
 {
-    let number = a.number;
-    match number {
-        0 => true,
-        7 => true,
-        _ => false,
-    }
+    matches!(a.number, 0 | 7)
 }
 
 // The line of the token at a place; 0 past the stream.
@@ -39,17 +36,16 @@ pub fn agreed_reading(stream: &[u64], nodes: &mut [u64]) -> Answer
     ensures { Agreed stream.now nodes.old nodes.new result }
 {
     let a = parser::reading(stream, nodes, Ranking::Crate);
-    let first = a.first;
-    if first == NONE {
+    let Some(first) = a.first else {
         return a.answer;
-    }
+    };
     let b = parser::manual_reading(stream, nodes);
     if !took(b) {
         return b;
     }
     tree::clear(nodes);
     Answer {
-        number: 8,
+        number: QUARREL,
         line: line_of(stream, first),
         found: first,
         expected: 0,
