@@ -7,8 +7,8 @@ use native.Mathlib.Omega.{arith}
 use lib.ListN.{length, take, drop, length-append}
 use lib.Seq.{sets, take_at, drop_at}
 use Rattle.lines.specs.Lines.{hex, field, Line, line, Fits, AllFit, more, shown, show, words, Taken, NoLine, Told}
-use Rattle.lines.specs.declared.Lines.{Lines}
-use Rattle.lines.specs.declared.Lines.TheVariants.{Records, Bad}
+use Rattle.std.specs.Prelude.{Result, Ok, Err}
+use Rattle.lines.specs.declared.BadLine.{BadLine}
 use Rattle.lines.proofs.Hex.{length_hex, length_field, hex_one}
 use Rattle.lines.proofs.Text.{assoc4, length_shown}
 
@@ -73,23 +73,26 @@ module _ (most : ℕ) (s s₁ s₂ : List ℕ) (ls ks : List Line) (i j : ℕ) (
 no_line_none : NoLine []
 no_line_none l m e = omega (arith, ap length e, length-append (shown l) m, length_shown l)
 
-pub decided : (text : List ℕ) (most : ℕ) (s s₁ s₂ : List ℕ) (a b : Lines) → Told text most s s₁ a → Told text most s s₂ b → (a ≡ b) × (s₁ ≡ s₂)
-decided text most s s₁ s₂ (Records n) (Records m) (ls, t, e) (ks, u, f) =
+abbrev bad : ℕ → Result ℕ BadLine
+bad n = Err (record { index = n })
+
+pub decided : (text : List ℕ) (most : ℕ) (s s₁ s₂ : List ℕ) (a b : Result ℕ BadLine) → Told text most s s₁ a → Told text most s s₂ b → (a ≡ b) × (s₁ ≡ s₂)
+decided text most s s₁ s₂ (Ok n) (Ok m) (ls, t, e) (ks, u, f) =
     let z = agree most s s₁ s₂ ls ks n m [] [] t u (inr no_line_none) (inr no_line_none)
     (compare ls ks [] [] t.fit u.fit (append-nil (show ls) ∙ sym e ∙ f ∙ sym (append-nil (show ks)))) in
-    (ap Records z.0, z.1)
-decided text most s s₁ s₂ (Records n) (Bad j) (ls, t, e) (ks, r, u, f, some, b) =
-    let z = agree most s s₁ s₂ ls ks n j [] r t u (inr no_line_none) b (compare ls ks [] r t.fit u.fit (append-nil (show ls) ∙ sym e ∙ f)) in
+    (ap Ok z.0, z.1)
+decided text most s s₁ s₂ (Ok n) (Err j) (ls, t, e) (ks, r, u, f, some, b) =
+    let z = agree most s s₁ s₂ ls ks n j.index [] r t u (inr no_line_none) b (compare ls ks [] r t.fit u.fit (append-nil (show ls) ∙ sym e ∙ f)) in
     absurd (some (sym z.2))
-decided text most s s₁ s₂ (Bad i) (Records m) (ls, q, t, e, some, a) (ks, u, f) =
-    let z = agree most s s₁ s₂ ls ks i m q [] t u a (inr no_line_none) (compare ls ks q [] t.fit u.fit (sym e ∙ f ∙ sym (append-nil (show ks)))) in
+decided text most s s₁ s₂ (Err i) (Ok m) (ls, q, t, e, some, a) (ks, u, f) =
+    let z = agree most s s₁ s₂ ls ks i.index m q [] t u a (inr no_line_none) (compare ls ks q [] t.fit u.fit (sym e ∙ f ∙ sym (append-nil (show ks)))) in
     absurd (some z.2)
-decided text most s s₁ s₂ (Bad i) (Bad j) (ls, q, t, e, x, a) (ks, r, u, f, y, b) =
-    let z = agree most s s₁ s₂ ls ks i j q r t u a b (compare ls ks q r t.fit u.fit (sym e ∙ f)) in
-    (ap Bad z.0, z.1)
+decided text most s s₁ s₂ (Err i) (Err j) (ls, q, t, e, x, a) (ks, r, u, f, y, b) =
+    let z = agree most s s₁ s₂ ls ks i.index j.index q r t u a b (compare ls ks q r t.fit u.fit (sym e ∙ f)) in
+    (ap bad z.0, z.1)
 
 -- what was written is read
-pub read_back : (lines : List Line) (most : ℕ) (s s' : List ℕ) (r : Lines) → AllFit lines → length lines ≤ most
-    → Told (show lines) most s s' r → (r ≡ Records (length lines)) × (s' ≡ sets s 0 (words lines))
+pub read_back : (lines : List Line) (most : ℕ) (s s' : List ℕ) (r : Result ℕ BadLine) → AllFit lines → length lines ≤ most
+    → Told (show lines) most s s' r → (r ≡ Ok (length lines)) × (s' ≡ sets s 0 (words lines))
 read_back ls most s s' r f h t =
-    decided (show ls) most s s' (sets s 0 (words ls)) r (Records (length ls)) t (ls, record { fit = f; count = refl; few = h; stored = refl }, refl)
+    decided (show ls) most s s' (sets s 0 (words ls)) r (Ok (length ls)) t (ls, record { fit = f; count = refl; few = h; stored = refl }, refl)

@@ -1,18 +1,17 @@
 -- Digits and fields: how many bytes, which, one number for each, and their writing and reading one by one. Assumes nothing.
 use mathlib.Core.Path.{◌≡◌, refl, sym, ap, ◌∙◌}
-use mathlib.Core.List.{List, [], ◌∷◌, ◌++◌, append_assoc}
-use mathlib.Core.Logic.{by_cases, ⊎_elim}
+use mathlib.Core.List.{List, [], ◌∷◌, ◌++◌}
+use mathlib.Core.Logic.{by_cases}
 use Prim.Native.Nat.{ℕ, zero, suc, ◌+◌, ◌-◌, ◌*◌, ◌/◌, ◌%◌, ◌^◌, ◌≤◌, ◌<◌}
 use native.Mathlib.Decide.{dec_lt}
-use native.Mathlib.Nat.{add-zero, pow-suc, pow-le-pow_right}
+use native.Mathlib.Nat.{pow-suc, pow-le-pow_right}
 use native.Mathlib.Numerals.{add-one}
 use native.Mathlib.Omega.{arith}
-use lib.ListN.{length, set, get_or, drop, take, length-append, get_or-append}
-use lib.Seq.{sets, drop-cons, drop-drop, drop_at, take_at, get_or_at, get_or-drop}
+use lib.ListN.{length, set, get_or, take, length-append, get_or-append}
+use lib.Seq.{sets, take-suc, take_at, get_or_at}
 use borrow.Author.Tests.{lt-ltb, le-ltb}
 use Rattle.tree.proofs.Lay.{sets_append, sets_comm}
 use Rattle.lines.specs.Lines.{glyph, hex, field}
-use Rattle.lines.specs.Parts.{Digit}
 
 pub glyph_low : (d : ℕ) → d < 10 → glyph d ≡ 48 + d
 unfolding glyph
@@ -85,54 +84,29 @@ pub put_after : (l : List ℕ) {l₁ l₂ : List ℕ} (p q : ℕ) (xs ys : List 
 put_after l p q xs ys e a b =
     b ∙ ap (λ (k : List ℕ). sets k q ys) a ∙ ap (λ (k : ℕ). sets (sets l p xs) k ys) e ∙ sym (sets_append xs ys l p)
 
--- reading: what stands after what was read
-pub past : (text s rest : List ℕ) (at n : ℕ) → length s ≡ n → drop at text ≡ s ++ rest → drop (at + n) text ≡ rest
-past text s rest at n h e = sym (drop-drop n at text) ∙ ap (drop n) e ∙ drop_at s rest n h
+-- reading: no digit yet, and one digit more
+pub read_none : [] ≡ hex 0 0
+unfolding hex
+read_none = refl
 
-pub read_turn : (text : List ℕ) (from i v d : ℕ) → from + i < length text → d < 16 → get_or text (from + i) 0 ≡ glyph d
-    → drop from text ≡ hex i v ++ drop (from + i) text → drop from text ≡ hex (i + 1) (v * 16 + d) ++ drop (from + (i + 1)) text
-read_turn text from i v d h k g e =
-    let c : suc (from + i) ≡ from + (i + 1) = omega arith in
-    e ∙ ap (λ (z : List ℕ). hex i v ++ z) (drop-cons text (from + i) 0 h ∙ ap (λ (x : ℕ). x ∷ drop (suc (from + i)) text) g ∙ ap (λ (x : ℕ). glyph d ∷ drop x text) c)
-    ∙ sym (append_assoc (hex i v) (glyph d ∷ []) (drop (from + (i + 1)) text))
-    ∙ ap (λ (z : List ℕ). z ++ drop (from + (i + 1)) text) (sym (hex_more i v d k) ∙ ap (λ (x : ℕ). hex x (v * 16 + d)) (sym (add-one i)))
+pub read_turn : (ds : List ℕ) (i v d : ℕ) → i < length ds → d < 16 → get_or ds i 0 ≡ glyph d → take i ds ≡ hex i v → take (i + 1) ds ≡ hex (i + 1) (v * 16 + d)
+read_turn ds i v d h k g e =
+    let n : suc i ≡ i + 1 = omega arith in
+    ap (λ (x : ℕ). take x ds) (sym n) ∙ take-suc ds i 0 h ∙ ap (λ (x : List ℕ). x ++ get_or ds i 0 ∷ []) e ∙ ap (λ (x : ℕ). hex i v ++ x ∷ []) g
+    ∙ sym (hex_more i v d k) ∙ ap (λ (x : ℕ). hex x (v * 16 + d)) n
 
-pub read_end : (text : List ℕ) (from k v e : ℕ) → from + k < length text → get_or text (from + k) 0 ≡ e
-    → drop from text ≡ hex k v ++ drop (from + k) text → drop from text ≡ field k v e ++ drop (from + (k + 1)) text
-read_end text from k v e h g d =
-    let c : suc (from + k) ≡ from + (k + 1) = omega arith in
-    d ∙ ap (λ (z : List ℕ). hex k v ++ z) (drop-cons text (from + k) 0 h ∙ ap (λ (x : ℕ). x ∷ drop (suc (from + k)) text) g ∙ ap (λ (x : ℕ). e ∷ drop x text) c)
-    ∙ sym (append_assoc (hex k v) (e ∷ []) (drop (from + (k + 1)) text))
-
--- a field's bytes: digits, and the end
-pub field_digit : (text m : List ℕ) (from k v e i : ℕ) → i < k → drop from text ≡ field k v e ++ m → (d : ℕ) × (d < 16) × (get_or text (from + i) 0 ≡ glyph d)
-field_digit text m from k v e i h w =
-    let z = hex_at k v i h in
-    let l : i < length (hex k v) = omega (arith, length_hex k v) in (
-      z.0,
-      z.1,
-      sym (get_or-drop from text i 0) ∙ ap (λ (y : List ℕ). get_or y i 0) (w ∙ append_assoc (hex k v) (e ∷ []) m)
-          ∙ get_or-append (hex k v) (e ∷ m) 0 i l ∙ z.2,
-    )
-
-pub field_end : (text m : List ℕ) (from k v e : ℕ) → drop from text ≡ field k v e ++ m → get_or text (from + k) 0 ≡ e
-field_end text m from k v e w =
-    sym (get_or-drop from text k 0) ∙ ap (λ (y : List ℕ). get_or y k 0) (w ∙ append_assoc (hex k v) (e ∷ []) m) ∙ get_or_at (hex k v) e m 0 k (length_hex k v)
+-- a byte that is no digit is in no field
+pub no_field : (part ds : List ℕ) (e f i : ℕ) → part ≡ ds ++ e ∷ [] → i < length ds → ((d : ℕ) → d < 16 → get_or ds i 0 ≡ glyph d → ⊥) → (k v : ℕ) → part ≡ field k v f → ⊥
+no_field part ds e f i p h bare k v q =
+    let n : length ds ≡ k = omega (arith, ap length p, ap length q, length-append ds (e ∷ []), length_field k v f) in
+    let s = (snoc_one ds (hex k v) e f (omega (arith, length_hex k v)) (sym p ∙ q)).0 in
+    let z = hex_at k v i (omega arith) in
+    bare z.0 z.1 (ap (λ (y : List ℕ). get_or y i 0) s ∙ z.2)
 
 -- before the first digit
 pub put_none : (l : List ℕ) (p i n : ℕ) → i ≡ 0 → sets l p (hex i n) ≡ l
 unfolding hex
 put_none l p i n e = ap (λ (k : ℕ). sets l p (hex k n)) e
-
-pub read_none : (text : List ℕ) (from : ℕ) → drop from text ≡ hex 0 0 ++ drop (from + 0) text
-unfolding hex
-read_none text from = ap (λ (k : ℕ). drop k text) (sym (add-zero from))
-
--- what is between is no digit
-pub no_digit : (b : ℕ) → (48 ≤ b → b ≤ 57 → ⊥) → (97 ≤ b → b ≤ 102 → ⊥) → (d : ℕ) → d < 16 → b ≡ glyph d → ⊥
-no_digit b f g d h e =
-    by_cases (dec_lt d 10) (λ l. let z = glyph_low d l in f (omega arith) (omega arith))
-    (λ n. let z = glyph_high d (omega arith) in g (omega arith) (omega arith))
 
 -- the number so far
 pub pow_more : (i v d : ℕ) → v < 16 ^ i → d < 16 → v * 16 + d < 16 ^ (i + 1)
@@ -140,7 +114,3 @@ pow_more i v d h k = rw (add-one, pow-suc) (omega arith)
 
 pub room : (i v : ℕ) → i < 16 → v < 16 ^ i → v < 1152921504606846976
 room i v h k = let p : 16 ^ i ≤ 16 ^ 15 = pow-le-pow_right {n = 16} (omega arith) {i = i} {j = 15} (omega arith) in omega arith
-
--- what is not none is one
-pub digit_is : (b r : ℕ) → Digit b r → (r ≡ 16 → ⊥) → (r < 16) × (b ≡ glyph r)
-digit_is b r d n = ⊎_elim (λ x. x) (λ x. absurd (n x.0)) d

@@ -1,8 +1,7 @@
 -- Records as lines of text: 2, 16, 8 and 8 lowercase hexadecimal digits, a space between, a newline at the end; what is told of a text. Assumes nothing: these are definitions.
-use Rattle.std.specs.Prelude.{◌≡◌, true, false, List, [], ◌∷◌, ◌++◌, ◌⊎◌, ℕ, zero, suc, ◌+◌, ◌-◌, ◌/◌, ◌%◌, ◌^◌, ◌≤◌, ◌<◌, ltb, length}
+use Rattle.std.specs.Prelude.{◌≡◌, true, false, Result, Ok, Err, List, [], ◌∷◌, ◌++◌, ◌⊎◌, ℕ, zero, suc, ◌+◌, ◌-◌, ◌/◌, ◌%◌, ◌^◌, ◌≤◌, ◌<◌, ltb, length}
 use Rattle.std.proofs.lemmas.List.Edits.{sets}
-use Rattle.lines.specs.declared.Lines.{Lines}
-use Rattle.lines.specs.declared.Lines.TheVariants.{Records, Bad}
+use Rattle.lines.specs.declared.BadLine.{BadLine}
 
 -- a digit's byte: from '0' on, and from ten on 'a'
 unfoldable pub glyph : ℕ → ℕ
@@ -62,7 +61,7 @@ abbrev pub NoLine : List ℕ → Type 0
 NoLine rest = (l : Line) (m : List ℕ) → rest ≡ shown l ++ m → ⊥
 
 -- the text is that of n lines; or there is more after the first i, which are as many as there may be or are not followed by a line
-abbrev pub Told : (text : List ℕ) (most : ℕ) (stream stream' : List ℕ) → Lines → Type 0
-Told text most stream stream' (Records n) = (lines : List Line) × Taken lines n most stream stream' × (text ≡ show lines)
-Told text most stream stream' (Bad i) =
-    (lines : List Line) × (rest : List ℕ) × Taken lines i most stream stream' × (text ≡ show lines ++ rest) × (rest ≡ [] → ⊥) × ((i ≡ most) ⊎ NoLine rest)
+abbrev pub Told : (text : List ℕ) (most : ℕ) (stream stream' : List ℕ) → Result ℕ BadLine → Type 0
+Told text most stream stream' (Ok n) = (lines : List Line) × Taken lines n most stream stream' × (text ≡ show lines)
+Told text most stream stream' (Err bad) =
+    (lines : List Line) × (rest : List ℕ) × Taken lines bad.index most stream stream' × (text ≡ show lines ++ rest) × (rest ≡ [] → ⊥) × ((bad.index ≡ most) ⊎ NoLine rest)

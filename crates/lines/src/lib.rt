@@ -2,114 +2,93 @@
 // at the end.
 #![tactic(auto)]
 
-ghost use Rattle.std.specs.Prelude.{◌≡◌, ◌+◌, ◌*◌, ◌^◌, ◌≤◌, ◌<◌, length, set};
+ghost use Rattle.std.specs.Prelude.{◌≡◌, ◌+◌, ◌*◌, ◌^◌, ◌≤◌, ◌<◌, length, set, slice_index};
 ghost use Rattle.std.proofs.lemmas.List.Edits.{sets};
 ghost use Rattle.lines.specs.Lines.{glyph, field, line, shown, shown_answer, Told};
 ghost use Rattle.lines.specs.Parts.{Digit, Field, Took};
 
+use tree::Record;
+
 pub const LINE: usize = 38;
 
-fn wide(b: u8) -> u64
-    ensures { result ≡ b }
-{
-    b as u64
+// The first line that has another form, or is one too many.
+#[derive(Clone, Copy, PartialEq, Eq, Debug)]
+pub struct BadLine {
+    pub index: usize,
 }
 
-// The value of a lowercase hexadecimal digit; 16 for what is none.
-fn digit(b: u8) -> u64
+// The value of a lowercase hexadecimal digit.
+#[tactic(auto, using(crate::proofs::Hex::glyph_low, crate::proofs::Hex::glyph_high))]
+fn digit(b: u8) -> Option<u64>
     ensures { Digit b result }
 {
-    if b >= b'0' {
-        if b <= b'9' {
-            return wide(b - b'0');
-        }
+    match b {
+        b'0'..=b'9' => Some(u64::from(b - b'0')),
+        b'a'..=b'f' => Some(u64::from(b - b'a') + 10),
+        _ => None,
     }
-    if b >= b'a' {
-        if b <= b'f' {
-            return wide(b - b'a') + 10;
-        }
-    }
-    16
 }
 
-// A number of so many digits, or none.
-#[derive(Clone, Copy)]
-pub enum Value {
-    Is(u64),
-    Other,
-}
-
-// So many digits, and the byte that ends them.
-fn number(text: &[u8], from: usize, digits: usize, end: u8) -> Value
-    requires { (from + digits < length text.now) × (digits ≤ 16) }
-    ensures { Field text.now from digits end result }
+// The number of these digits, if they are that and end with this byte.
+fn number(part: &[u8], end: u8) -> Option<u64>
+    requires { length part.now ≤ 17 }
+    ensures { Field part.now end result }
 {
-    let mut v: u64 = 0;
-    let mut i = 0;
-    while i < digits {
-        let d = digit(text[from + i]);
-        if d == 16 {
-            return Value::Other;
-        }
-        v = v * 16 + d;
-        i += 1;
+    let (last, digits) = part.split_last()?;
+    if *last != end {
+        return None;
     }
-    if text[from + digits] != end {
-        return Value::Other;
+    let mut v = 0;
+    for b in digits {
+        v = v * 16 + digit(*b)?;
     }
-    Value::Is(v)
+    Some(v)
 }
 
-// One line put as a record of the stream; whether it has the form.
-fn take_line(text: &[u8], at: usize, stream: &mut [u64], index: usize) -> bool
-    requires { at ≤ length text.now }
-    ensures { Took text.now at stream.old stream.new index result }
+// The four words of a line.
+fn take_line(bytes: &[u8]) -> Option<[u64; 4]>
+    ensures { Took bytes.now result }
 {
-    if text.len() - at < LINE {
-        return false;
+    if bytes.len() != LINE {
+        return None;
     }
-    let Value::Is(kind) = number(text, at, 2, b' ') else {
-        return false;
-    };
-    let Value::Is(payload) = number(text, at + 3, 16, b' ') else {
-        return false;
-    };
-    let Value::Is(line) = number(text, at + 20, 8, b' ') else {
-        return false;
-    };
-    let Value::Is(after) = number(text, at + 29, 8, b'\n') else {
-        return false;
-    };
-    tree::put(stream, index, kind, payload, line, after);
-    true
+    let kind = number(&bytes[..3], b' ')?;
+    let payload = number(&bytes[3..20], b' ')?;
+    let line = number(&bytes[20..29], b' ')?;
+    let after = number(&bytes[29..38], b'\n')?;
+    Some([kind, payload, line, after])
 }
 
-// How many records the text has; or the first line that has another form, or is one too many.
-#[derive(Clone, Copy)]
-pub enum Lines {
-    Records(usize),
-    Bad(usize),
-}
-
-pub fn read_lines(text: &[u8], stream: &mut [u64], most: usize) -> Lines
+// Puts the text's lines as the records of a stream; how many there are.
+pub fn read_lines(text: &[u8], stream: &mut [u64], most: usize) -> Result<usize, BadLine>
     ensures { Told text.now most stream.old stream.new result }
 {
-    let mut at = 0;
-    let mut n = 0;
-    while at < text.len() {
-        if n == most {
-            return Lines::Bad(n);
+    let mut index = 0;
+    for bytes in text.chunks(LINE) {
+        if index == most {
+            return Err(BadLine { index });
         }
-        if !take_line(text, at, stream, n) {
-            return Lines::Bad(n);
-        }
-        at += LINE;
-        n += 1;
+        let Some(words) = take_line(bytes) else {
+            return Err(BadLine { index });
+        };
+        // kind, payload, line and after-line
+        tree::put(
+            stream,
+            index,
+            Record {
+                tag: words[0],
+                value: words[1],
+                line: words[2],
+                size: words[3],
+            },
+        );
+        index += 1;
     }
-    Lines::Records(n)
+    Ok(index)
 }
 
 // A digit's byte.
+#[tactic(auto, using(crate::proofs::Hex::glyph_low, crate::proofs::Hex::glyph_high))]
 fn byte(d: u64) -> u8
     requires { d < 16 }
     ensures { result ≡ glyph d }
@@ -126,10 +105,8 @@ fn store(out: &mut [u8], at: usize, off: usize, b: u8)
     ensures { out.new ≡ set out.old (at + off) b }
 {
     let n = out.len();
-    if at < n {
-        if off < n - at {
-            out[at + off] = b;
-        }
+    if at < n && off < n - at {
+        out[at + off] = b;
     }
 }
 
@@ -139,32 +116,30 @@ fn put_number(out: &mut [u8], at: usize, off: usize, digits: usize, n: u64, end:
     ensures { out.new ≡ sets out.old (at + off) (field digits n end) }
 {
     let mut rest = n;
-    let mut i = digits;
-    while i > 0 {
-        i -= 1;
+    for i in (0..digits).rev() {
         store(out, at, off + i, byte(rest % 16));
-        rest = rest / 16;
+        rest /= 16;
     }
     store(out, at, off + digits, end);
 }
 
 // A record's line, as far as it fits.
-pub fn write_line(out: &mut [u8], at: usize, a: u64, b: u64, c: u64, d: u64)
-    ensures { out.new ≡ sets out.old at (shown (line a b c d)) }
+pub fn write_line(out: &mut [u8], at: usize, words: [u64; 4])
+    ensures { out.new ≡ sets out.old at (shown (line (slice_index words 0) (slice_index words 1) (slice_index words 2) (slice_index words 3))) }
 {
-    put_number(out, at, 0, 2, a, b' ');
-    put_number(out, at, 3, 16, b, b' ');
-    put_number(out, at, 20, 8, c, b' ');
-    put_number(out, at, 29, 8, d, b'\n');
+    put_number(out, at, 0, 2, words[0], b' ');
+    put_number(out, at, 3, 16, words[1], b' ');
+    put_number(out, at, 20, 8, words[2], b' ');
+    put_number(out, at, 29, 8, words[3], b'\n');
 }
 
 // The five numbers of an answer, on one line of 45 bytes, as far as it fits.
-pub fn write_answer(out: &mut [u8], a: u64, b: u64, c: u64, d: u64, e: u64)
-    ensures { out.new ≡ sets out.old 0 (shown_answer a b c d e) }
+pub fn write_answer(out: &mut [u8], numbers: [u64; 5])
+    ensures { out.new ≡ sets out.old 0 (shown_answer (slice_index numbers 0) (slice_index numbers 1) (slice_index numbers 2) (slice_index numbers 3) (slice_index numbers 4)) }
 {
-    put_number(out, 0, 0, 8, a, b' ');
-    put_number(out, 0, 9, 8, b, b' ');
-    put_number(out, 0, 18, 8, c, b' ');
-    put_number(out, 0, 27, 8, d, b' ');
-    put_number(out, 0, 36, 8, e, b'\n');
+    put_number(out, 0, 0, 8, numbers[0], b' ');
+    put_number(out, 0, 9, 8, numbers[1], b' ');
+    put_number(out, 0, 18, 8, numbers[2], b' ');
+    put_number(out, 0, 27, 8, numbers[3], b' ');
+    put_number(out, 0, 36, 8, numbers[4], b'\n');
 }

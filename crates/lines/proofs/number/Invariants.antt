@@ -1,10 +1,7 @@
--- Before turn i the first i bytes are the digits of a number of i digits.
-use Rattle.std.proofs.Common.{◌≡◌, ◌+◌, ◌-◌, ◌^◌, ◌≤◌, ◌<◌, ◌++◌, drop}
+-- Before each turn the digits so far are those of a number of so many digits.
+use Rattle.std.proofs.Common.{◌≡◌, ◌^◌, ◌<◌, take}
 use Rattle.lines.specs.Lines.{hex}
 use Rattle.lines.proofs.number.Given as goal
 
-abbrev pub invariant-loop-i : goal.invariant-loop-i
-invariant-loop-i l = (l.i ≤ l.digits) × (l.v < 16 ^ l.i) × (drop l.from l.text ≡ hex l.i l.v ++ drop (l.from + l.i) l.text)
-
-abbrev pub decreases-loop-i : goal.decreases-loop-i
-decreases-loop-i l = l.digits - l.i
+abbrev pub invariant-loop-b : goal.invariant-loop-b
+invariant-loop-b l = (l.v < 16 ^ l.b-index) × (take l.b-index l.digits ≡ hex l.b-index l.v)

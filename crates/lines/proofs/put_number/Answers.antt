@@ -11,11 +11,9 @@ loop-i-preserved c =
     let p = c.args.at + c.args.off in
     let i = t.i - 1 in
     let q = c.args.at + (c.args.off + i) in
-    let e : suc i ≡ t.i = omega arith in (
-      omega arith,
-      ap (λ (l : List ℕ). sets l p (hex i (t.rest / 16))) (c.store.ensures ∙ ap (λ (g : ℕ). set t.out q g) c.byte.ensures)
-          ∙ put_turn t.out p q i t.rest (omega arith) ∙ ap (λ (k : ℕ). sets t.out p (hex k t.rest)) e ∙ t.invariant.1,
-    )
+    let e : suc i ≡ t.i = omega arith in
+    ap (λ (l : List ℕ). sets l p (hex i (t.rest / 16))) (c.store.ensures ∙ ap (λ (g : ℕ). set t.out q g) c.byte.ensures)
+    ∙ put_turn t.out p q i t.rest (omega arith) ∙ ap (λ (k : ℕ). sets t.out p (hex k t.rest)) e ∙ t.invariant
 
 pub returns : goal.returns
 returns c =
@@ -23,4 +21,4 @@ returns c =
     let t = c.loop-i in
     let p = a.at + a.off in
     put_after a.out.now p (a.at + (a.off + a.digits)) (hex a.digits a.n) (a.end ∷ []) (omega (arith, length_hex a.digits a.n))
-    (sym (put_none t.out p t.i t.rest (omega arith)) ∙ t.invariant.1) c.store-2.ensures
+    (sym (put_none t.out p t.i t.rest (omega arith)) ∙ t.invariant) c.store-2.ensures

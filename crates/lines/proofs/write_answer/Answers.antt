@@ -4,6 +4,5 @@ use Rattle.lines.proofs.write_answer.Goals as goal
 
 pub returns : goal.returns
 returns c =
-    let a = c.args in
-    put_answer_lem a.out.now a.a a.b a.c a.d a.e
+    put_answer_lem c.args.out.now _ _ _ _ _
     c.put_number.ensures c.put_number-2.ensures c.put_number-3.ensures c.put_number-4.ensures c.put_number-5.ensures
