@@ -9,7 +9,8 @@ use native.Mathlib.Omega.{arith}
 use lib.ListN.{length, take, drop, replicate, length-append, length-take, length-replicate, take-append-drop, drop_of_length-le}
 use lib.Seq.{sets, take_all, take_at, take-append-le, take-append-add}
 use Rattle.lines.specs.Lines.{Line, line, AllFit, shown, show, words, shown_answer, Taken, NoLine, Told}
-use Rattle.lines.specs.declared.Lines.TheVariants.{Records, Bad}
+use Rattle.std.specs.Prelude.{Result, Ok, Err}
+use Rattle.lines.specs.declared.BadLine.{BadLine}
 use Rattle.lines.proofs.Text.{length_shown, length_words}
 use Rattle.lines.proofs.Decided.{decided as read_one}
 use Rattle.parser.specs.declared.Answer.{Answer}
@@ -36,17 +37,27 @@ printed_one a nodes (numbers e p) (numbers f q) = p ∙ sym q
 abbrev none : List ℕ
 none = replicate 4100 0
 
+abbrev good : ℕ → Result ℕ BadLine
+good n = Ok n
+
+abbrev bad : ℕ → Result ℕ BadLine
+bad i = Err (record { index = i })
+
+abbrev fault : Result ℕ BadLine → ℕ
+fault (Ok n) = 0
+fault (Err b) = b.index
+
 module _ (text : List ℕ) (ls : List Line) (f : AllFit ls) (few : length ls ≤ 1025) where
   taken : Taken ls (length ls) 1025 none (sets none 0 (words ls))
   taken = record { fit = f; count = refl; few = few; stored = refl }
 
-  whole : text ≡ show ls → Told text 1025 none (sets none 0 (words ls)) (Records (length ls))
+  whole : text ≡ show ls → Told text 1025 none (sets none 0 (words ls)) (good (length ls))
   whole e = (ls, taken, e)
 
-  part : (rest : List ℕ) → text ≡ show ls ++ rest → (rest ≡ [] → ⊥) → (length ls ≡ 1025) ⊎ NoLine rest → Told text 1025 none (sets none 0 (words ls)) (Bad (length ls))
+  part : (rest : List ℕ) → text ≡ show ls ++ rest → (rest ≡ [] → ⊥) → (length ls ≡ 1025) ⊎ NoLine rest → Told text 1025 none (sets none 0 (words ls)) (bad (length ls))
   part rest e more why = (ls, rest, taken, e, more, why)
 
-same_words : (ls ks : List Line) → length ls ≤ 1025 → length ks ≤ 1025 → Records (length ls) ≡ Records (length ks) → sets none 0 (words ls) ≡ sets none 0 (words ks) → words ls ≡ words ks
+same_words : (ls ks : List Line) → length ls ≤ 1025 → length ks ≤ 1025 → good (length ls) ≡ good (length ks) → sets none 0 (words ls) ≡ sets none 0 (words ks) → words ls ≡ words ks
 same_words ls ks f g e s =
     let n : length ls * 4 ≡ length ks * 4 = let z : length ls ≡ length ks = cc in omega arith in
     let r = length-replicate {A = ℕ} 4100 0 in
@@ -56,23 +67,23 @@ same_words ls ks f g e s =
 pub read : {text bytes : List ℕ} → Says text bytes → (ls : List Line) → AllFit ls → length ls ≤ 1025 → text ≡ show ls
     → (a : Answer) (nodes : List ℕ) → Agreed (words ls) (replicate 8192 0) nodes a → Printed a nodes bytes
 read {text} {bytes} (reads ks g h' e' b ms y p) ls f h e a ns x =
-    let z = read_one text 1025 none _ _ (Records (length ks)) (Records (length ls)) (whole text ks g h' e') (whole text ls f h e) in
+    let z = read_one text 1025 none _ _ (good (length ks)) (good (length ls)) (whole text ks g h' e') (whole text ls f h e) in
     let w = same_words ks ls h' h z.0 z.1 in
     let u = agreed-one (words ls) (replicate 8192 0) (subst (λ (v : List ℕ). Agreed v (replicate 8192 0) ms b) w y) x in
     subst (λ (v : Answer). Printed v ns bytes) u.0 (subst (λ (v : List ℕ). Printed b v bytes) u.1 p)
 read {text} (refuses ks r g h' e' more why p) ls f h e a ns x =
-    let z = (read_one text 1025 none _ _ (Bad (length ks)) (Records (length ls)) (part text ks g h' r e' more why) (whole text ls f h e)).0 in
+    let z = (read_one text 1025 none _ _ (bad (length ks)) (good (length ls)) (part text ks g h' r e' more why) (whole text ls f h e)).0 in
     absurd (let q : ◌≡◌ {A = ℕ} 0 1 = cc in omega arith)
 
 -- if it is not: 6, and the line
 pub refused : {text bytes : List ℕ} → Says text bytes → (ls : List Line) (rest : List ℕ) → AllFit ls → length ls ≤ 1025 → text ≡ show ls ++ rest
     → (rest ≡ [] → ⊥) → (length ls ≡ 1025) ⊎ NoLine rest → bytes ≡ shown_answer 6 0 (length ls) 0 0
 refused {text} (reads ks g h' e' b ms y p) ls r f h e more why =
-    let z = (read_one text 1025 none _ _ (Records (length ks)) (Bad (length ls)) (whole text ks g h' e') (part text ls f h r e more why)).0 in
+    let z = (read_one text 1025 none _ _ (good (length ks)) (bad (length ls)) (whole text ks g h' e') (part text ls f h r e more why)).0 in
     absurd (let q : ◌≡◌ {A = ℕ} 0 1 = cc in omega arith)
 refused {text} (refuses ks q g h' e' more' why' p) ls r f h e more why =
-    let z = (read_one text 1025 none _ _ (Bad (length ks)) (Bad (length ls)) (part text ks g h' q e' more' why') (part text ls f h r e more why)).0 in
-    let n : length ks ≡ length ls = cc in
+    let z = (read_one text 1025 none _ _ (bad (length ks)) (bad (length ls)) (part text ks g h' q e' more' why') (part text ls f h r e more why)).0 in
+    let n : length ks ≡ length ls = ap fault z in
     p ∙ ap (λ (i : ℕ). shown_answer 6 0 i 0 0) n
 
 says_one : {text b c : List ℕ} → Says text b → Says text c → b ≡ c

@@ -5,11 +5,12 @@ use mathlib.Core.Logic.{◌⊎◌}
 use Prim.Native.Nat.{ℕ, ◌+◌, ◌*◌, ◌/◌, ◌≤◌}
 use native.Mathlib.Omega.{arith}
 use lib.ListN.{length, take, drop, replicate, length-append, length-replicate}
-use lib.Seq.{sets, sets-eq, take_at, length-sets}
+use lib.Seq.{sets, sets-eq, take_at}
 use Rattle.tree.specs.Forest.{size, flat}
 use Rattle.tree.proofs.Lay.{length_flat}
 use Rattle.lines.specs.Lines.{Line, words, shown_answer, NoLine, Told}
-use Rattle.lines.specs.declared.Lines.TheVariants.{Records, Bad}
+use Rattle.std.specs.Prelude.{Ok, Err}
+use Rattle.lines.specs.declared.BadLine.{BadLine}
 use Rattle.lines.proofs.Text.{length_words}
 use Rattle.parser.specs.declared.Answer.{Answer}
 use Rattle.agreed.specs.Agreed.{Agreed}
@@ -33,7 +34,7 @@ counted s {nodes} {a} x z =
     (omega arith, omega arith, omega arith)
 
 pub told_tree : (s out : List ℕ) {nodes out' : List ℕ} {a : Answer} (k : ℕ) → Agreed s (replicate 8192 0) nodes a → a.number ≡ 0
-    → PutTree nodes a.count out out' k → Reading s out out' k
+    → PutTree (take a.count nodes) out out' k → Reading s out out' k
 told_tree s out k x z (rs, w, p) = record { answer = _; nodes = _; bytes = _; agreed = x; printed = tree rs z w refl; put = p }
 
 pub told_numbers : (s out : List ℕ) {nodes out' : List ℕ} {a : Answer} (k : ℕ) → Agreed s (replicate 8192 0) nodes a → (a.number ≡ 0 → ⊥)
@@ -47,7 +48,7 @@ stored ls s h =
     ap (take (length ls * 4)) (sets-eq (words ls) s 0 (omega arith)) ∙ take_at (words ls) (drop (0 + length (words ls)) s) (length ls * 4) e
 
 -- a whole text, and one with a line at fault
-pub answers_read : (text out : List ℕ) {out' : List ℕ} (s : List ℕ) (n k : ℕ) → Told text 1025 (replicate 4100 0) s (Records n) → Reading (take (n * 4) s) out out' k
+pub answers_read : (text out : List ℕ) {out' : List ℕ} (s : List ℕ) (n k : ℕ) → Told text 1025 (replicate 4100 0) s (Ok n) → Reading (take (n * 4) s) out out' k
     → Answers text out out' k
 answers_read text out s n k (ls, t, e) r =
     let c = t.count in
@@ -57,12 +58,8 @@ answers_read text out s n k (ls, t, e) r =
     let w : take (n * 4) s ≡ words ls = ap (take (n * 4)) t.stored ∙ ap (λ (i : ℕ). take i (sets (replicate 4100 0) 0 (words ls))) q ∙ stored ls (replicate 4100 0) (omega arith) in
     (r.bytes, reads ls t.fit (omega arith) e r.answer r.nodes (subst (λ (z : List ℕ). Agreed z (replicate 8192 0) r.nodes r.answer) w r.agreed) r.printed, r.put)
 
-pub answers_bad : (text out : List ℕ) {out' : List ℕ} (s s' : List ℕ) (i k : ℕ) → Told text 1025 s s' (Bad i) → Put (shown_answer 6 0 i 0 0) out out' k
+pub answers_bad : (text out : List ℕ) {out' : List ℕ} (s s' : List ℕ) (bad : BadLine) (k : ℕ) → Told text 1025 s s' (Err bad) → Put (shown_answer 6 0 bad.index 0 0) out out' k
     → Answers text out out' k
-answers_bad text out s s' i k (ls, rest, t, e, more, why) p =
+answers_bad text out s s' bad k (ls, rest, t, e, more, why) p =
     let c = t.count in
-    (shown_answer 6 0 i 0 0, refuses ls rest t.fit (omega (arith, t.few)) e more (subst (λ (n : ℕ). (n ≡ 1025) ⊎ NoLine rest) (sym c) why) (ap (λ (n : ℕ). shown_answer 6 0 n 0 0) (sym c)), p)
-
--- room for the words, and the stream's length
-pub told_room : (text s s' : List ℕ) (n : ℕ) {most : ℕ} → Told text most s s' (Records n) → (n ≤ most) × (length s' ≡ length s)
-told_room text s s' n (ls, t, e) = (t.few, ap length t.stored ∙ length-sets s 0 (words ls))
+    (shown_answer 6 0 bad.index 0 0, refuses ls rest t.fit (omega (arith, t.few)) e more (subst (λ (n : ℕ). (n ≡ 1025) ⊎ NoLine rest) (sym c) why) (ap (λ (n : ℕ). shown_answer 6 0 n 0 0) (sym c)), p)

@@ -1,10 +1,11 @@
 -- Bytes at the front of an array; records and their lines. Assumes nothing.
 use mathlib.Core.Path.{◌≡◌, refl, sym, ap, ◌∙◌}
 use mathlib.Core.List.{List, [], ◌∷◌, ◌++◌}
-use Prim.Native.Nat.{ℕ, zero, suc, ◌+◌, ◌*◌, ◌≤◌, ◌<◌}
+use Prim.Native.Nat.{ℕ, zero, suc, ◌+◌, ◌*◌, ◌/◌, ◌≤◌, ◌<◌}
 use native.Mathlib.Omega.{arith}
-use lib.ListN.{length, take, drop, get_or, length-append}
-use lib.Seq.{sets, sets-eq, length-take-le, take-add, drop-cons}
+use lib.ListN.{length, take, drop, get_or, length-append, length-drop}
+use lib.Seq.{sets, sets-eq, length-take-le, take-add, drop-drop}
+use Rattle.std.specs.Simd.{first_chunks}
 use Rattle.lines.specs.Lines.{Line, line, shown, show, fours, words, shown_answer, field}
 use Rattle.lines.proofs.Hex.{length_field, put_after}
 use Rattle.lines.proofs.Text.{length_shown, length_words, each_more}
@@ -54,37 +55,41 @@ grouped (suc n) (a ∷ b ∷ c ∷ []) e = absurd (omega arith)
 grouped (suc n) (a ∷ b ∷ c ∷ d ∷ ws) e = let z = grouped n ws (omega arith) in (line a b c d ∷ z.0, ap (λ (x : List ℕ). a ∷ b ∷ c ∷ d ∷ x) z.1)
 
 -- four words more
-drop_one : (ws : List ℕ) (i j : ℕ) → i < length ws → j ≡ suc i → drop i ws ≡ get_or ws i 0 ∷ drop j ws
-drop_one ws i j h e = drop-cons ws i 0 h ∙ ap (λ (k : ℕ). get_or ws i 0 ∷ drop k ws) (sym e)
+chunk_at : (n i : ℕ) (ws d : List ℕ) → i < n → get_or (first_chunks 4 n ws) i d ≡ take 4 (drop (i * 4) ws)
+chunk_at zero i ws d h = absurd (omega arith)
+chunk_at (suc n) zero ws d h = refl
+chunk_at (suc n) (suc i) ws d h =
+    let e : 4 + i * 4 ≡ suc i * 4 = omega arith in
+    chunk_at n i (drop 4 ws) d (omega arith) ∙ ap (take 4) (drop-drop (i * 4) 4 ws ∙ ap (λ (k : ℕ). drop k ws) e)
 
-take_four : (ws : List ℕ) (i : ℕ) → i + 4 ≤ length ws
-    → take (i + 4) ws ≡ take i ws ++ (get_or ws i 0 ∷ get_or ws (i + 1) 0 ∷ get_or ws (i + 2) 0 ∷ get_or ws (i + 3) 0 ∷ [])
-take_four ws i h =
-    take-add i 4 ws
-    ∙ ap (λ (x : List ℕ). take i ws ++ take 4 x) (drop_one ws i (i + 1) (omega arith) (omega arith))
-    ∙ ap (λ (x : List ℕ). take i ws ++ (get_or ws i 0 ∷ take 3 x)) (drop_one ws (i + 1) (i + 2) (omega arith) (omega arith))
-    ∙ ap (λ (x : List ℕ). take i ws ++ (get_or ws i 0 ∷ get_or ws (i + 1) 0 ∷ take 2 x)) (drop_one ws (i + 2) (i + 3) (omega arith) (omega arith))
-    ∙ ap (λ (x : List ℕ). take i ws ++ (get_or ws i 0 ∷ get_or ws (i + 1) 0 ∷ get_or ws (i + 2) 0 ∷ take 1 x)) (drop_one ws (i + 3) (i + 4) (omega arith) (omega arith))
+four : (w : List ℕ) → length w ≡ 4 → fours (line (get_or w 0 0) (get_or w 1 0) (get_or w 2 0) (get_or w 3 0)) ≡ w
+four [] e = absurd (omega arith)
+four (a ∷ []) e = absurd (omega arith)
+four (a ∷ b ∷ []) e = absurd (omega arith)
+four (a ∷ b ∷ c ∷ []) e = absurd (omega arith)
+four (a ∷ b ∷ c ∷ d ∷ []) e = refl
+four (a ∷ b ∷ c ∷ d ∷ x ∷ w) e = absurd (omega arith)
 
-pub wrote_more : (nodes out : List ℕ) {out₁ out₂ : List ℕ} (i p : ℕ) → p ≡ i * 38 → i * 4 + 4 ≤ length nodes → Wrote nodes i out out₁
-    → out₂ ≡ sets out₁ p (shown (line (get_or nodes (i * 4) 0) (get_or nodes (i * 4 + 1) 0) (get_or nodes (i * 4 + 2) 0) (get_or nodes (i * 4 + 3) 0)))
-    → Wrote nodes (i + 1) out out₂
-wrote_more nodes out i p q h (ls, a, b) e =
-    let l = line (get_or nodes (i * 4) 0) (get_or nodes (i * 4 + 1) 0) (get_or nodes (i * 4 + 2) 0) (get_or nodes (i * 4 + 3) 0) in
-    let n : i * 4 + 4 ≡ (i + 1) * 4 = omega arith in
-    let m : p ≡ 0 + length (show ls) = omega (arith, length_show ls, length_words ls, ap length a, length-take-le (i * 4) nodes (omega arith)) in (
+pub wrote_more : (ws out : List ℕ) {out₁ out₂ : List ℕ} (n i : ℕ) (w d : List ℕ) → n * 4 ≡ length ws → i < n → w ≡ get_or (first_chunks 4 n ws) i d
+    → Wrote (take (i * 4) ws) out out₁ → out₂ ≡ sets out₁ (i * 38) (shown (line (get_or w 0 0) (get_or w 1 0) (get_or w 2 0) (get_or w 3 0)))
+    → Wrote (take ((i + 1) * 4) ws) out out₂
+wrote_more ws out n i w d q h f (ls, a, b) e =
+    let l = line (get_or w 0 0) (get_or w 1 0) (get_or w 2 0) (get_or w 3 0) in
+    let g = f ∙ chunk_at n i ws d h in
+    let z : length w ≡ 4 = omega (arith, ap length g, length-take-le 4 (drop (i * 4) ws) (omega (arith, length-drop (i * 4) ws))) in
+    let t : i * 4 + 4 ≡ (i + 1) * 4 = omega arith in
+    let m : i * 38 ≡ 0 + length (show ls) = omega (arith, length_show ls, length_words ls, ap length a, length-take-le (i * 4) ws (omega arith)) in (
       ls ++ l ∷ [],
-      each_more fours ls l ∙ ap (λ (x : List ℕ). x ++ fours l) a ∙ sym (take_four nodes (i * 4) h) ∙ ap (λ (k : ℕ). take k nodes) n,
-      put_after out 0 p (show ls) (shown l) m b e ∙ ap (sets out 0) (sym (each_more shown ls l)),
+      each_more fours ls l ∙ ap (λ (x : List ℕ). x ++ fours l) a ∙ ap (λ (x : List ℕ). take (i * 4) ws ++ x) (four w z ∙ g)
+          ∙ sym (take-add (i * 4) 4 ws) ∙ ap (λ (k : ℕ). take k ws) t,
+      put_after out 0 (i * 38) (show ls) (shown l) m b e ∙ ap (sets out 0) (sym (each_more shown ls l)),
     )
 
 -- a tree's lines, written or not
-pub put_tree_lem : (nodes out : List ℕ) {out' : List ℕ} (n c k : ℕ) → n * 4 ≡ c → c ≤ length nodes → n * 38 ≡ k → k ≤ length out → Wrote nodes n out out' → PutTree nodes c out out' k
-put_tree_lem nodes out n c k e h f g (ls, a, b) =
-    (ls, a ∙ ap (λ (x : ℕ). take x nodes) e, put (show ls) out k (omega (arith, length_show ls, length_words ls, ap length a, length-take-le (n * 4) nodes (omega arith))) g b)
+pub put_tree_lem : (ws out : List ℕ) {out' : List ℕ} (k : ℕ) → length ws / 4 * 4 ≡ length ws → length ws / 4 * 38 ≡ k → k ≤ length out → Wrote ws out out' → PutTree ws out out' k
+put_tree_lem ws out k e f g (ls, a, b) = (ls, a, put (show ls) out k (omega (arith, length_show ls, length_words ls, ap length a)) g b)
 
-pub put_tree_none : (nodes out : List ℕ) (n c k : ℕ) → n * 4 ≡ c → c ≤ length nodes → n * 38 ≡ k → length out < k → PutTree nodes c out out k
-put_tree_none nodes out n c k e h f g =
-    let m : length (take c nodes) ≡ n * 4 = omega (arith, length-take-le c nodes h) in
-    let z = grouped n (take c nodes) m in
+pub put_tree_none : (ws out : List ℕ) (k : ℕ) → length ws / 4 * 4 ≡ length ws → length ws / 4 * 38 ≡ k → length out < k → PutTree ws out out k
+put_tree_none ws out k e f g =
+    let z = grouped (length ws / 4) ws (sym e) in
     (z.0, z.1, put_none (show z.0) out k (omega (arith, length_show z.0, length_words z.0, ap length z.1)) g)

@@ -1,18 +1,18 @@
 -- What the private functions tell. Assumes nothing: these are definitions.
-use Rattle.std.specs.Prelude.{◌≡◌, List, ℕ, ◌*◌, take, replicate}
+use Rattle.std.specs.Prelude.{◌≡◌, List, ℕ, replicate}
 use Rattle.std.proofs.lemmas.List.Edits.{sets}
 use Rattle.lines.specs.Lines.{Line, show, words}
 use Rattle.parser.specs.declared.Answer.{Answer}
 use Rattle.agreed.specs.Agreed.{Agreed}
 use Rattle.script.specs.Answers.{Printed, Put}
 
--- the lines of so many records, as far as they fit
-abbrev pub Wrote : (nodes : List ℕ) (records : ℕ) (out out' : List ℕ) → Type 0
-Wrote nodes n out out' = (records : List Line) × (words records ≡ take (n * 4) nodes) × (out' ≡ sets out 0 (show records))
+-- the lines of the records in these words, as far as they fit
+abbrev pub Wrote : (ws out out' : List ℕ) → Type 0
+Wrote ws out out' = (records : List Line) × (words records ≡ ws) × (out' ≡ sets out 0 (show records))
 
--- those of the records in so many words, where there is room
-abbrev pub PutTree : (nodes : List ℕ) (count : ℕ) (out out' : List ℕ) (k : ℕ) → Type 0
-PutTree nodes count out out' k = (records : List Line) × (words records ≡ take count nodes) × Put (show records) out out' k
+-- the same, where there is room
+abbrev pub PutTree : (ws out out' : List ℕ) (k : ℕ) → Type 0
+PutTree ws out out' k = (records : List Line) × (words records ≡ ws) × Put (show records) out out' k
 
 -- what is printed for a stream's agreed reading
 pub record Reading (stream out out' : List ℕ) (k : ℕ) : Type 0 where
