@@ -7,18 +7,15 @@
 // their length then, and hold what was stored by that time.
 #![tactic(auto)]
 
-ghost use Rattle.std.specs.Prelude.{◌+◌, ◌*◌, ◌≤◌, ◌<◌, ◌≡◌, IfOk, OnErr, length, take};
-ghost use Rattle.std.specs.Io.KnownBytes.{Consumes, IsAtEnd};
+ghost use Rattle.std.specs.Prelude.{◌≤◌, ◌≡◌, IfOk, OnErr, length};
 
-use lines::{LINE, Lines};
+use lines::LINE;
 use parser::Answer;
 use std::io;
-use std::io::Read;
+use tree::Record;
 
 // The bytes that are read at a time, whole lines; the words of 2,048 tree records.
 const BLOCK: usize = 62320;
-
-const NODES: usize = 8192;
 
 const END: u64 = 59;
 
@@ -26,29 +23,16 @@ const END: u64 = 59;
 const BLOCKS: u64 = 1000000000;
 
 // One record, in the form in which records are read.
-fn print_record(out: &impl Print, nodes: &[u64; 8192], at: usize) -> io::Result<()>
-    requires { at + 4 ≤ 8192 }
-{
+fn print_record(out: &impl Print, record: [u64; 4]) -> io::Result<()> {
     let mut line = [0u8; 38];
-    lines::write_line(
-        &mut line,
-        0,
-        nodes[at],
-        nodes[at + 1],
-        nodes[at + 2],
-        nodes[at + 3],
-    );
+    lines::write_line(&mut line, 0, record);
     out.write_all(&line)
 }
 
 fn print_tree(out: &impl Print, nodes: &[u64; 8192], count: usize) -> io::Result<()> {
-    let mut i = 0;
-    while i < count {
-        if i + 4 > NODES {
-            break;
-        }
-        print_record(out, nodes, i)?;
-        i += 4;
+    let (records, _) = nodes.as_chunks::<4>();
+    for record in records.iter().take(count / 4) {
+        print_record(out, *record)?;
     }
     Ok(())
 }
@@ -57,11 +41,7 @@ fn print_answer(out: &impl Print, a: Answer) -> io::Result<()> {
     let mut line = [0u8; 45];
     lines::write_answer(
         &mut line,
-        a.number,
-        a.line,
-        a.found as u64,
-        a.expected,
-        a.count as u64,
+        [a.number, a.line, a.found as u64, a.expected, a.count as u64],
     );
     out.write_all(&line)
 }
@@ -72,34 +52,22 @@ fn pattern(i: usize) -> u64 {
 }
 
 fn fill(nodes: &mut [u64; 8192]) {
-    let mut i = 0;
-    while i < NODES {
-        nodes[i] = pattern(i);
-        i += 1;
+    for (i, word) in nodes.iter_mut().enumerate() {
+        *word = pattern(i);
     }
 }
 
 // Whether the words from `from` on are as `fill` left them.
 fn unchanged(nodes: &[u64; 8192], from: usize) -> bool {
-    let mut i = from;
-    while i < NODES {
-        if nodes[i] != pattern(i) {
-            return false;
-        }
-        i += 1;
-    }
-    true
+    nodes
+        .iter()
+        .enumerate()
+        .skip(from)
+        .all(|(i, word)| *word == pattern(i))
 }
 
 fn zeroed(nodes: &[u64; 8192]) -> bool {
-    let mut i = 0;
-    while i < NODES {
-        if nodes[i] != 0 {
-            return false;
-        }
-        i += 1;
-    }
-    true
+    nodes.iter().all(|word| *word == 0)
 }
 
 // An answer, and loudly where the array is not as demand 1 promises.
@@ -140,16 +108,14 @@ fn take_line(
     stream: &mut [u64],
     nodes: &mut [u64; 8192],
     records: usize,
-    text: &[u8],
-    at: usize,
+    line: &[u8],
 ) -> io::Result<usize>
-    requires { (length stream.old ≡ 4100) × (records ≤ 1025) × (at + 38 ≤ length text.now) }
+    requires { (length stream.old ≡ 4100) × (records ≤ 1025) }
     ensures ok { IfOk result (λ n. n ≤ 1025) }
     ensures err { OnErr result (length stream.new ≡ length stream.old) }
 {
     let mut record = [0u64; 4];
-    let end = at + LINE;
-    let Lines::Records(_) = lines::read_lines(&text[at..end], &mut record, 1) else {
+    let Ok(1) = lines::read_lines(line, &mut record, 1) else {
         other_form(out)?;
         return Ok(records);
     };
@@ -161,7 +127,16 @@ fn take_line(
         out.write_all(b"A STREAM HAS MORE THAN 1024 TOKENS\n")?;
         return Ok(0);
     }
-    tree::put(stream, records, kind, record[1], record[2], record[3]);
+    tree::put(
+        stream,
+        records,
+        Record {
+            tag: kind,
+            value: record[1],
+            line: record[2],
+            size: record[3],
+        },
+    );
     let more = records + 1;
     if kind != END {
         return Ok(more);
@@ -177,44 +152,17 @@ fn take_lines(
     stream: &mut [u64],
     nodes: &mut [u64; 8192],
     records: usize,
-    text: &[u8],
-    n: usize,
+    block: &[u8],
 ) -> io::Result<usize>
-    requires { (length stream.old ≡ 4100) × (records ≤ 1025) × (n ≤ length text.now) }
+    requires { (length stream.old ≡ 4100) × (records ≤ 1025) }
     ensures ok { IfOk result (λ n. n ≤ 1025) }
     ensures err { OnErr result (length stream.new ≡ length stream.old) }
 {
     let mut r = records;
-    let mut left = n;
-    let mut at = 0;
-    while left >= LINE {
-        r = take_line(out, stream, nodes, r, text, at)?;
-        at += LINE;
-        left -= LINE;
-    }
-    if left != 0 {
-        other_form(out)?;
+    for line in block.chunks(LINE) {
+        r = take_line(out, stream, nodes, r, line)?;
     }
     Ok(r)
-}
-
-// Fills `buf` from the front, until it is full or the input ends; how many bytes there are then. A read may give fewer than there is room for.
-// At an error, also where a signal interrupts a read, the bytes that came before it are lost.
-fn read_full<R: Read>(input: &mut R, buf: &mut [u8]) -> io::Result<usize>
-    ensures within { IfOk result (λ n. n ≤ length buf.new) }
-    ensures bytes { IfOk result (λ n. Consumes (R.remaining input.old) (R.remaining input.new) (take n buf.new)) }
-    ensures end { IfOk result (λ n. n < length buf.new → IsAtEnd (R.remaining input.new)) }
-    ensures err { OnErr result (length buf.new ≡ length buf.old) }
-{
-    let mut n = 0;
-    while n < buf.len() {
-        let more = input.read(&mut buf[n..])?;
-        if more == 0 {
-            return Ok(n);
-        }
-        n += more;
-    }
-    Ok(n)
 }
 
 fn main(rt: HostRuntime) -> io::Result<()> {
@@ -223,14 +171,12 @@ fn main(rt: HostRuntime) -> io::Result<()> {
     let stream: &mut [u64] = &mut space;
     let mut nodes = [0u64; 8192];
     let mut records = 0;
-    let mut blocks: u64 = 0;
-    while blocks < BLOCKS {
-        let n = read_full(&mut rt.stdin(), &mut text)?;
-        records = take_lines(&rt, stream, &mut nodes, records, &text, n)?;
+    for _ in 0..BLOCKS {
+        let n = input::read_full(&mut rt.stdin(), &mut text)?;
+        records = take_lines(&rt, stream, &mut nodes, records, &text[..n])?;
         if n < BLOCK {
             break;
         }
-        blocks += 1;
     }
     if records != 0 {
         rt.write_all(b"A STREAM HAS NO END\n")?;

@@ -1,9 +1,0 @@
--- The index stays within the array.
-use Rattle.std.proofs.Common.{◌-◌, ◌≤◌}
-use Rattle.batch.proofs.zeroed.Given as goal
-
-abbrev pub invariant-loop-i : goal.invariant-loop-i
-invariant-loop-i l = l.i ≤ 8192
-
-abbrev pub decreases-loop-i : goal.decreases-loop-i
-decreases-loop-i l = 8192 - l.i
