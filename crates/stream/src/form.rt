@@ -2,7 +2,7 @@
 ghost use Rattle.std.specs.Prelude.{◌≡◌};
 ghost use Rattle.stream.specs.Formed.{token_words, end_words, Judged};
 
-use crate::kinds::{END_OF_STREAM, FLOAT, INTEGER, NAME, STRING};
+use crate::kinds::{END_OF_STREAM, FLOAT, INTEGER};
 
 // Where a stream is not well formed: at its first bad record, or at its start for a bad length.
 #[derive(Clone, Copy)]
@@ -16,15 +16,26 @@ const MOST: u64 = 4294967295;
 // The words of as many tokens as there may be, and of the end's record.
 const WORDS: usize = 4194308;
 
+// One test after another: a match over the kinds takes five instructions a record more, `&&` ten.
 fn is_token(kind: u64, payload: u64, line: u64, after: u64) -> bool
     ensures { result ≡ token_words kind payload line after }
 {
-    let pays = match kind {
-        INTEGER | FLOAT => true,
-        STRING | NAME => payload <= MOST,
-        _ => payload == 0,
-    };
-    kind < END_OF_STREAM && pays && line <= MOST && after <= MOST
+    if MOST < line {
+        return false;
+    }
+    if MOST < after {
+        return false;
+    }
+    if kind < INTEGER {
+        return payload == 0;
+    }
+    if kind <= FLOAT {
+        return true;
+    }
+    if kind < END_OF_STREAM {
+        return payload <= MOST;
+    }
+    false
 }
 
 fn is_end(kind: u64, payload: u64, line: u64, after: u64) -> bool
