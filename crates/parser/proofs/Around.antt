@@ -41,12 +41,6 @@ settled_end s k limit g H A e q c = settle s (ranks k) limit 0 (readers s (ranks
 
 -- one level down
 module _ (s : List ℕ) (k : Ranking) where
-  pub exps_deep : (limit g : ℕ) (c : Cursor) → g ≡ 0 → (readers s (ranks k) g).exps limit c.place c.mark ≡ (readers s (ranks k) 0).exps limit c.place c.mark
-  exps_deep limit g c e = ap (λ (z : ℕ). (readers s (ranks k) z).exps limit c.place c.mark) e
-
-  pub stats_deep : (g : ℕ) (c : Cursor) → g ≡ 0 → (readers s (ranks k) g).stats c.place c.mark ≡ (readers s (ranks k) 0).stats c.place c.mark
-  stats_deep g c e = ap (λ (z : ℕ). (readers s (ranks k) z).stats c.place c.mark) e
-
   pub exps_down : (limit g : ℕ) (c : Cursor) → (g ≡ 0 → ⊥)
       → (readers s (ranks k) g).exps limit c.place c.mark
       ≡ read s (ranks k) limit (readers s (ranks k) (g - 1)) (hold 0 0 none) expression (loop s (length s) (read s (ranks k) limit (readers s (ranks k) (g - 1)) (hold 0 0 none) expression)) c.place c.mark

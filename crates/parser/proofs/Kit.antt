@@ -136,9 +136,6 @@ pub revalue_going : {s : List ℕ} {q : Note} {low used more : ℕ} {n n' : List
 revalue_going {s} {q} {low} {used} {more} {n} {n'} {o} {rest} {c} {u} e g = subst (Going s q low used more n n' o rest c u) e g
 
 module _ {s : List ℕ} {q : Note} {low used more : ℕ} {n n' : List ℕ} {o : Out} {rest : Reader} {c : Cursor} {u v : ℕ} (g : Going s q low used more n n' o rest c u v) where
-  pub going_length : length n' ≡ length n
-  going_length = ap length g.laid ∙ length-sets n (used * 4) (flat g.trees)
-
   -- a look: what is left is left at the cursor that it gave
   pub looks : (f : Reader) (d : Cursor) → rest c.place c.mark ≡ f d.place d.mark → d.place ≡ c.place → d.note ≡ c.note → Going s q low used more n n' o f d u v
   looks f d e p x = record { trees = g.trees; says = g.says ∙ ap (add g.trees v) e; grown = g.grown; laid = g.laid; at = omega (arith, g.at, p); later = omega (arith, g.later, p); room = omega (arith, g.room, p); heard = x ∙ g.heard }
@@ -213,11 +210,6 @@ onward_later low'' more' n₂ f x p (Err e) y l k = past f x y
 pub onward : {s : List ℕ} {q : Note} {low low' used more : ℕ} {n n₁ : List ℕ} {o : Out} {c : Cursor} {u : ℕ} (more' : ℕ) (n₂ : List ℕ) (f : Reader) → Fine s q low used more n n₁ o c u 0 → (p : Place) (r : Result Unit Refusal)
     → Meets s c.note low' u more' n₁ n₂ (f c.place c.mark) p r → c.place ≤ low' → Meets s q low used more' n n₂ (then o f) p r
 onward {low = low} more' n₂ f x p r y l = onward_later low more' n₂ f x p r y l (omega (arith, x.later))
-
-pub onward_sum : {s : List ℕ} {q : Note} {low low' used more : ℕ} {n n₁ : List ℕ} {o : Out} {c : Cursor} {u : ℕ} (start more' : ℕ) (n₂ : List ℕ) (f : Reader) → Fine s q low used more n n₁ o c u 0 → (p : Place) (r : Result ℕ Refusal)
-    → Sums s c.note c.place low' u more' n₁ n₂ (f c.place c.mark) p r → c.place ≤ low' → start ≤ c.place → Sums s q start low used more' n n₂ (then o f) p r
-onward_sum start more' n₂ f x p (Ok v) y l b = (revalue (omega arith) (both f x y.0 l), omega (arith, y.1))
-onward_sum start more' n₂ f x p (Err e) y l b = past f x y
 
 -- a record over what was read, which stands behind it: whatever that added to a note, and whatever the record does
 laid_over : {w w' : Forest → Note → Note} {s : List ℕ} {q q' : Note} {low used more : ℕ} {n n₁ n₂ : List ℕ} {o : Out} {c : Cursor} {u v : ℕ} (tag : ℕ) (l : Line) (i line : ℕ) (d : Cursor) → d.place ≡ c.place → d.mark ≡ c.mark

@@ -1,5 +1,4 @@
--- Looks: made twice they see the same; one token decides between several productions; taking is getting, and then taking; and what was
--- expected, as the descent asks for it. Assumes nothing.
+-- Looks: made twice they see the same; one token decides between several productions; taking is getting, and then taking. Assumes nothing.
 use mathlib.Core.Path.{◌≡◌, refl, sym, ap, ◌∙◌, subst}
 use mathlib.Core.List.{List, [], ◌∷◌}
 use mathlib.Core.Bool.{Bool, true, false}
@@ -13,20 +12,16 @@ use borrow.Author.Tests.{ne_eqb}
 use Rattle.stream.specs.Words.{kind}
 use Rattle.stream.specs.Reader.{reached, read_ahead, token_at, passed, get_next, take_next, look_ahead}
 use Rattle.stream.specs.declared.reader.Cursor.{Cursor}
-use Rattle.stream.specs.declared.reader.Note.{Note}
 use Rattle.stream.specs.declared.reader.Token.{Token}
 use Rattle.stream.specs.declared.reader.Refusal.{Refusal}
 use Rattle.stream.proofs.Reading.{reached_twice, get_end, get_token, take_end, take_token, look_end, look_token}
 use Rattle.operators.specs.Ranks.{Ranks}
-use Rattle.operators.specs.declared.Ranking.{Ranking}
 use Rattle.tree.specs.Forest.{none}
 use Rattle.grammar.specs.Member.{member}
 use Rattle.grammar.specs.Term.{Term, next, any, ◌⨾◌, on, refuse}
 use Rattle.grammar.specs.Reading.{Out, fine, fail, Reader, Readers, Held, then, ended, read}
-use Rattle.grammar.specs.Productions.{look}
 use Rattle.grammar.proofs.Tests.{no_case}
 use Rattle.grammar.proofs.Among.{Unlike, unlike, other}
-use Rattle.parser.specs.Contract.{Fine, says}
 use Rattle.parser.proofs.Steps.{never, got, saw, ran_out, got_line, get_place, took_next, next_fail, next_is}
 
 -- an answer and a cursor
@@ -145,12 +140,3 @@ module _ (s : List ℕ) (rank : Ranks) (limit : ℕ) (R : Readers) (h : Held) (A
 
     pub by_others : Unlike t.kind (kinds (r ∷ rs)) (From c (choice (r ∷ rs) e) ≡ From d e)
     by_others = unlike t.kind (kinds (r ∷ rs)) (λ q. chosen c x r rs e ∙ ap (From d) q) (pick_other (r ∷ rs) e t.kind)
-
--- the look that closes a block stays where it is
-abbrev placed : Out → ℕ
-placed (fine q m t v) = q
-placed (fail e) = 0
-
-pub looks_on : (s : List ℕ) (k : Ranking) (g : ℕ) (c : Cursor) {q : Note} {low used more : ℕ} {n n' : List ℕ} {d : Cursor} {u v : ℕ} → Fine s q low used more n n' (says s k g look c) d u v → c.place ≡ d.place
-unfolding read
-looks_on s k g c f = ap placed f.says

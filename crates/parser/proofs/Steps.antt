@@ -125,9 +125,6 @@ module _ (s : List ℕ) (c : Cursor) where
   pub saw_kind : {t : Token} {d : Cursor} → look_ahead s c 0 ≡ (Some t, d) → t.kind ≡ kind s d.place
   saw_kind x = let g = saw x in ap (λ (z : Token). z.kind) g.token ∙ sym (ap (kind s) (look_place x))
 
-  pub saw_line : {t : Token} {d : Cursor} → look_ahead s c 0 ≡ (Some t, d) → t.line ≡ line s d.place
-  saw_line x = let g = saw x in ap (λ (z : Token). z.line) g.token ∙ sym (ap (line s) (look_place x))
-
   pub got_line : {t : Token} {d : Cursor} → get_next s c ≡ (Ok t, d) → t.line ≡ line s d.place
   got_line x = let g = got x in ap (λ (z : Token). z.line) g.token ∙ sym (ap (line s) (get_place x))
 

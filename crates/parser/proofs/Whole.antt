@@ -9,13 +9,13 @@ use Rattle.std.specs.Option.{is_some}
 use lib.ListN.{length}
 use lib.Seq.{sets}
 use borrow.Author.Tests.{eq-eqb, ne_eqb}
-use Rattle.stream.specs.Formed.{Formed, Malformed}
+use Rattle.stream.specs.Formed.{Formed}
 use Rattle.stream.specs.Reader.{told, look_ahead}
 use Rattle.stream.specs.declared.reader.Cursor.{Cursor}
 use Rattle.stream.specs.declared.reader.Note.{Note}
 use Rattle.stream.specs.declared.reader.Token.{Token}
 use Rattle.stream.specs.declared.reader.Refusal.{Refusal}
-use Rattle.stream.proofs.Judged.{formed_not_malformed, malformed_once}
+use Rattle.stream.proofs.Judged.{formed_not_malformed}
 use Rattle.operators.specs.Ranks.{ranks}
 use Rattle.operators.specs.declared.Ranking.{Ranking}
 use Rattle.tree.specs.Forest.{Forest, none, size, flat}
@@ -83,15 +83,6 @@ module _ (s : List ℕ) (k : Ranking) where
 
   -- an answer of the reading, and what it promises
   module _ {n n' : List ℕ} where
-    pub answered_malformed : {p : ℕ} → Malformed s p → Zeroed n n' → Answered s k n n' (refusing (record { number = 6; line = 0; found = p; expected = 0 }))
-    answered_malformed {p} b z =
-        record {
-          malformed = λ q c. (ap (λ (x : ℕ). refusing (record { number = 6; line = 0; found = x; expected = 0 })) (malformed_once b c), z);
-          accepts = λ t f. absurd (formed_not_malformed f b);
-          short = λ t f. absurd (formed_not_malformed f b);
-          refuses = λ e f. absurd (formed_not_malformed f b);
-        }
-
     pub answered_refused : {e : Refusal} → Formed s → chunk s (ranks k) 199 ≡ fail e → Zeroed n n' → Answered s k n n' (refusing e)
     answered_refused {e} f x z =
         record {
@@ -121,9 +112,6 @@ module _ (s : List ℕ) (k : Ranking) where
           }
 
   -- the first that quarrels
-  pub noted_malformed : {p : ℕ} → Malformed s p → Noted s k None
-  noted_malformed b = record { derived = λ t f. absurd (formed_not_malformed f b); underived = λ n. refl; unformed = λ p m. refl }
-
   pub noted_refused : {e : Refusal} → chunk s (ranks k) 199 ≡ fail e → Noted s k None
   noted_refused x = record { derived = λ t f d. absurd (refused_none s k 199 x t d); underived = λ n. refl; unformed = λ p m. refl }
 

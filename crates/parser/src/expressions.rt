@@ -14,23 +14,19 @@ use stream::reader::{Note, Refusal};
 use tree::Tag;
 
 // An expression of its own has a chain of its own; an operand goes on with the chain that it stands in.
-fn begun(limit: u64, note: Note) -> Note
-    ensures { result ≡ begins (eqb limit 0) note }
+fn begin_chain(limit: u64, note: &mut Note)
+    ensures { note.new ≡ begins (eqb limit 0) note.old }
 {
     if limit == MIN_PRIORITY {
-        quarrel::fresh(note)
-    } else {
-        note
+        *note = quarrel::fresh(*note);
     }
 }
 
-fn back(limit: u64, outer: Note, note: Note) -> Note
-    ensures { result ≡ backs (eqb limit 0) outer note }
+fn end_chain(limit: u64, outer: Note, note: &mut Note)
+    ensures { note.new ≡ backs (eqb limit 0) outer note.old }
 {
     if limit == MIN_PRIORITY {
-        quarrel::resume(outer, note)
-    } else {
-        note
+        *note = quarrel::resume(outer, *note);
     }
 }
 
@@ -71,12 +67,12 @@ impl Script<'_> {
             levels: self.levels - 1,
         };
         let outer = at.cursor.note;
-        at.cursor.note = begun(limit, outer);
+        begin_chain(limit, &mut at.cursor.note);
         let first = at.used;
         at.used += 1;
         inner.head(at, nodes)?;
         let tails = inner.tails(at, nodes, limit)?;
-        at.cursor.note = back(limit, outer, at.cursor.note);
+        end_chain(limit, outer, &mut at.cursor.note);
         at.close(nodes, first, Tag::Expression, tails, 0);
         Ok(())
     }

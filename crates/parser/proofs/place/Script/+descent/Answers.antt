@@ -1947,7 +1947,7 @@ expression-returns t c =
     let p = c.args.at.now in
     let dn = exps_down x.stream.now x.ranking c.args.limit x.levels p.cursor c.if-self-eq0.false in
     let hd = settled x.stream.now x.ranking c.args.limit (x.levels - 1) (hold 0 0 none) (loop x.stream.now (length x.stream.now) (read x.stream.now (ranks x.ranking) c.args.limit (readers x.stream.now (ranks x.ranking) (x.levels - 1)) (hold 0 0 none) expression')) head' refl p.cursor in
-    alter dn (over_expression (eqb c.args.limit 0) p.cursor.note c.begun-at.result c.back-at.result p.cursor.place c.begun-at.ensures c.back-at.ensures (revalue (omega arith) (both (read x.stream.now (ranks x.ranking) c.args.limit (readers x.stream.now (ranks x.ranking) (x.levels - 1)) (hold 0 0 none) tails' (loop x.stream.now (length x.stream.now) (read x.stream.now (ranks x.ranking) c.args.limit (readers x.stream.now (ranks x.ranking) (x.levels - 1)) (hold 0 0 none) expression'))) (alter hd c.in_ok-head.ensures) c.in_ok-tails.ensures.0 (omega arith))) c.close.ensures)
+    alter dn (over_expression (eqb c.args.limit 0) p.cursor.note c.begin_chain.new.note c.end_chain.new.note p.cursor.place c.begin_chain.ensures c.end_chain.ensures (revalue (omega arith) (both (read x.stream.now (ranks x.ranking) c.args.limit (readers x.stream.now (ranks x.ranking) (x.levels - 1)) (hold 0 0 none) tails' (loop x.stream.now (length x.stream.now) (read x.stream.now (ranks x.ranking) c.args.limit (readers x.stream.now (ranks x.ranking) (x.levels - 1)) (hold 0 0 none) expression'))) (alter hd c.in_ok-head.ensures) c.in_ok-tails.ensures.0 (omega arith))) c.close.ensures)
 
 pub head-returns-in_err-token : goal.head-returns-in_err-token
 unfolding head'
