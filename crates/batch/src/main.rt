@@ -3,11 +3,11 @@
 // A line of standard input is a record in the form of 01's program, and a stream ends with its record of kind 3b. For each stream come
 // the crate, the manual and the agreed reading: the tree, a record a line, where there is one, and the five numbers of the answer.
 //
-// A read or a write that fails ends the program with its error, handed on as it came: no function makes another. The lent arrays keep
-// their length then, and hold what was stored by that time.
+// A read or a write that fails ends the program with its error, handed on as it came: no function makes another. What was lent then
+// holds what was stored by that time.
 #![tactic(auto)]
 
-ghost use Rattle.std.specs.Prelude.{◌≤◌, ◌≡◌, IfOk, OnErr, length};
+ghost use Rattle.std.specs.Prelude.{◌≤◌};
 
 use lines::LINE;
 use parser::Answer;
@@ -85,100 +85,88 @@ fn tell(out: &impl Print, nodes: &[u64; 8192], a: Answer) -> io::Result<()> {
     print_answer(out, a)
 }
 
-fn readings(out: &impl Print, stream: &[u64], nodes: &mut [u64; 8192]) -> io::Result<()> {
-    fill(nodes);
-    let a = parser::crate_reading(stream, nodes);
-    tell(out, nodes, a)?;
-    fill(nodes);
-    let b = parser::manual_reading(stream, nodes);
-    tell(out, nodes, b)?;
-    fill(nodes);
-    let c = agreed::agreed_reading(stream, nodes);
-    tell(out, nodes, c)
-}
-
 // Loudly, of a line that is no record's.
 fn other_form(out: &impl Print) -> io::Result<()> {
     out.write_all(b"A LINE HAS ANOTHER FORM\n")
 }
 
-// One line, after so many records of its stream; how many there are then. At the end of a stream its readings are told.
-fn take_line(
-    out: &impl Print,
-    stream: &mut [u64],
-    nodes: &mut [u64; 8192],
+// A stream as far as it has come, and the room in which it is read.
+#[derive(Drop)]
+struct Pending {
+    stream: [u64; 4100],
     records: usize,
-    line: &[u8],
-) -> io::Result<usize>
-    requires { (length stream.old ≡ 4100) × (records ≤ 1025) }
-    ensures ok { IfOk result (λ n. n ≤ 1025) }
-    ensures err { OnErr result (length stream.new ≡ length stream.old) }
-{
-    let mut record = [0u64; 4];
-    let Ok(1) = lines::read_lines(line, &mut record, 1) else {
-        other_form(out)?;
-        return Ok(records);
-    };
-    let kind = record[0];
-    if records == 1025 {
-        if kind != END {
-            return Ok(records);
-        }
-        out.write_all(b"A STREAM HAS MORE THAN 1024 TOKENS\n")?;
-        return Ok(0);
-    }
-    tree::put(
-        stream,
-        records,
-        Record {
-            tag: kind,
-            value: record[1],
-            line: record[2],
-            size: record[3],
-        },
-    );
-    let more = records + 1;
-    if kind != END {
-        return Ok(more);
-    }
-    let words = more * 4;
-    readings(out, &stream[..words], nodes)?;
-    Ok(0)
+    nodes: [u64; 8192],
+    // room for 1,024 tokens and an end
+    ghost few: { records ≤ 1025 },
 }
 
-// The lines of a block, after so many records of a stream; how many of the last stream there are then.
-fn take_lines(
-    out: &impl Print,
-    stream: &mut [u64],
-    nodes: &mut [u64; 8192],
-    records: usize,
-    block: &[u8],
-) -> io::Result<usize>
-    requires { (length stream.old ≡ 4100) × (records ≤ 1025) }
-    ensures ok { IfOk result (λ n. n ≤ 1025) }
-    ensures err { OnErr result (length stream.new ≡ length stream.old) }
-{
-    let mut r = records;
-    for line in block.chunks(LINE) {
-        r = take_line(out, stream, nodes, r, line)?;
+impl Pending {
+    // The stream is read in three ways, each in the same room, filled anew.
+    fn readings(&mut self, out: &impl Print) -> io::Result<()> {
+        let stream = &self.stream[..self.records * 4];
+        let nodes = &mut self.nodes;
+        fill(nodes);
+        let a = parser::crate_reading(stream, nodes);
+        tell(out, nodes, a)?;
+        fill(nodes);
+        let b = parser::manual_reading(stream, nodes);
+        tell(out, nodes, b)?;
+        fill(nodes);
+        let c = agreed::agreed_reading(stream, nodes);
+        tell(out, nodes, c)
     }
-    Ok(r)
+
+    // One line; at the end of a stream its readings are told, and the next one begins.
+    fn take_line(&mut self, out: &impl Print, text: &[u8]) -> io::Result<()> {
+        let mut record = [0u64; 4];
+        let Ok(1) = lines::read_lines(text, &mut record, 1) else {
+            return other_form(out);
+        };
+        let [kind, value, line, size] = record;
+        if self.records < 1025 {
+            let record = Record {
+                tag: kind,
+                value,
+                line,
+                size,
+            };
+            tree::put(&mut self.stream, self.records, record);
+            self.records += 1;
+            if kind == END {
+                self.readings(out)?;
+                self.records = 0;
+            }
+        } else if kind == END {
+            out.write_all(b"A STREAM HAS MORE THAN 1024 TOKENS\n")?;
+            self.records = 0;
+        }
+        Ok(())
+    }
+
+    // The lines of a block.
+    fn take_lines(&mut self, out: &impl Print, block: &[u8]) -> io::Result<()> {
+        for text in block.chunks(LINE) {
+            self.take_line(out, text)?;
+        }
+        Ok(())
+    }
 }
 
 fn main(rt: HostRuntime) -> io::Result<()> {
     let mut text = [0u8; 62320];
-    let mut space = [0u64; 4100];
-    let stream: &mut [u64] = &mut space;
-    let mut nodes = [0u64; 8192];
-    let mut records = 0;
+    let mut pending = Pending {
+        stream: [0; 4100],
+        records: 0,
+        nodes: [0; 8192],
+    };
     for _ in 0..BLOCKS {
         let n = input::read_full(&mut rt.stdin(), &mut text)?;
-        records = take_lines(&rt, stream, &mut nodes, records, &text[..n])?;
+        pending.take_lines(&rt, &text[..n])?;
         if n < BLOCK {
             break;
         }
     }
-    if records != 0 {
+    if pending.records != 0 {
         rt.write_all(b"A STREAM HAS NO END\n")?;
     }
     Ok(())
