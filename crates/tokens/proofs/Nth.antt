@@ -40,14 +40,14 @@ near_read s p c k = let m : (read_ahead s c 1).mark ≡ (there s p).mark = omega
 near : (s : List ℕ) (n : ℕ) → Tokens s n → Near s n (steps s start n)
 near s n t = let e : 0 + n ≡ n = omega arith in subst (λ m. Near s m (steps s start n)) e (near_steps s n 0 start (refl, omega arith, refl) (λ i l. t i (omega arith)))
 
-pub nth : (s : List ℕ) (n : ℕ) → Tokens s n → token_after s n ≡ record { look = at_end s n None (Some (token_at s n)); line = told s (min (n + 2) (records s)) }
+pub nth : (s : List ℕ) (n : ℕ) → Tokens s n → token_after s n ≡ record { look = at_end s n None (Some (token_at s n)); cursor = there s n; line = told s (min (n + 2) (records s)) }
 unfolding look_ahead
 nth s n t =
     let k = near s n t in
     let c = steps s start n in
     let p : c.place + 0 ≡ n = omega (arith, k.0) in
     let r = near_read s n c k in
-    λ i. record { look = at_end s (p i) None (Some (token_at s (p i))); line = told s (r i).mark }
+    λ i. record { look = at_end s (p i) None (Some (token_at s (p i))); cursor = r i; line = told s (r i).mark }
 
 -- a cursor at the end
 abbrev Last : List ℕ → ℕ → Cursor → Type 0
@@ -64,7 +64,7 @@ steps_add : (s : List ℕ) (m k : ℕ) (c : Cursor) → steps s c (m + k) ≡ st
 steps_add s zero k c = let e : 0 + k ≡ k = omega arith in ap (steps s c) e
 steps_add s (suc m) k c = let e : suc m + k ≡ suc (m + k) = omega arith in ap (steps s c) e ∙ steps_add s m k (stepped s c)
 
-pub past : (s : List ℕ) (m n : ℕ) → Tokens s m → kind s m ≡ 59 → m ≤ n → token_after s n ≡ record { look = None; line = told s (min (m + 2) (records s)) }
+pub past : (s : List ℕ) (m n : ℕ) → Tokens s m → kind s m ≡ 59 → m ≤ n → token_after s n ≡ record { look = None; cursor = there s m; line = told s (min (m + 2) (records s)) }
 past s m n t e l =
     let k = near s m t in
     let j : m + (n - m) ≡ n = omega arith in
@@ -73,4 +73,4 @@ past s m n t e l =
     let c = steps s start n in
     let p : c.place + 0 ≡ m = omega (arith, b.0) in
     let f = look_end s c 0 (ap (kind s) p ∙ e) in
-    λ i. record { look = (f i).0; line = told s (b.1 i).mark }
+    λ i. record { look = (f i).0; cursor = b.1 i; line = told s (b.1 i).mark }

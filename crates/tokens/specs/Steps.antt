@@ -22,6 +22,6 @@ abbrev pub steps : List ℕ → Cursor → ℕ → Cursor
 steps s c zero = c
 steps s c (suc n) = steps s (stepped s c) n
 
--- a look from there, and the line that the reading has come to with it
+-- a look from there, the cursor by then, and the line that the reading has come to with it
 abbrev pub token_after : List ℕ → ℕ → Stop
-token_after s n = let c = steps s start n in record { look = (look_ahead s c 0).0; line = told s (read_ahead s c 1).mark }
+token_after s n = let c = steps s start n in record { look = (look_ahead s c 0).0; cursor = read_ahead s c 1; line = told s (read_ahead s c 1).mark }

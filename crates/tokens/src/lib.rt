@@ -25,10 +25,11 @@ pub struct TokenReader<'a> {
     pub cursor: Cursor,
 }
 
-// The next token, or none at the end, and the reading line by then.
+// The next token, or none at the end; the cursor and the reading line by then.
 #[derive(Clone, Copy)]
 pub struct Stop {
     pub look: Option<Token>,
+    pub cursor: Cursor,
     pub line: u64,
 }
 
@@ -78,7 +79,7 @@ impl<'a> TokenReader<'a> {
     }
 }
 
-// The token after so many, or none at the end, and the reading line by then.
+// The token after so many, or none at the end; the cursor and the reading line by then.
 pub fn token_after(stream: &[u64], n: usize) -> Stop
     ensures { result ≡ token_after stream.now n }
 {
@@ -86,6 +87,7 @@ pub fn token_after(stream: &[u64], n: usize) -> Stop
     reader.step_over(n);
     Stop {
         look: reader.look_ahead(0),
+        cursor: reader.cursor,
         line: reader.reading_line(),
     }
 }
