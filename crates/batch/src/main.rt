@@ -39,10 +39,7 @@ fn print_tree(out: &impl Print, nodes: &[u64; 8192], count: usize) -> io::Result
 
 fn print_answer(out: &impl Print, a: Answer) -> io::Result<()> {
     let mut line = [0u8; 45];
-    lines::write_answer(
-        &mut line,
-        [a.number, a.line, a.found as u64, a.expected, a.count as u64],
-    );
+    lines::write_answer(&mut line, a.numbers());
     out.write_all(&line)
 }
 

@@ -4,7 +4,7 @@
 // makes a record of its own, its parts come first, behind it, and the record is put before them when value and size are known.
 #![tactic(auto)]
 
-ghost use Rattle.std.specs.Prelude.{◌≡◌, None, length, replicate, false};
+ghost use Rattle.std.specs.Prelude.{◌≡◌, None, [], ◌∷◌, length, replicate, false};
 ghost use Rattle.stream.specs.Formed.{Formed};
 ghost use Rattle.operators.specs.Ranks.{ranks};
 ghost use Rattle.operators.specs.declared.Ranking.{Ranking};
@@ -50,6 +50,21 @@ pub struct Answer {
 pub struct Findings {
     pub answer: Answer,
     pub first: Option<usize>,
+}
+
+impl Answer {
+    // The five numbers, in 01's order.
+    pub fn numbers(self) -> [u64; 5]
+        ensures { result ≡ self.number ∷ self.line ∷ self.found ∷ self.expected ∷ self.count ∷ [] }
+    {
+        [
+            self.number,
+            self.line,
+            self.found as u64,
+            self.expected,
+            self.count as u64,
+        ]
+    }
 }
 
 impl From<Refusal> for Answer {

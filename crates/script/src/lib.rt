@@ -21,10 +21,7 @@ fn put_answer(a: Answer, out: &mut [u8]) -> usize
     ensures { Put (five a) out.old out.new result }
 {
     if out.len() >= ANSWER {
-        lines::write_answer(
-            out,
-            [a.number, a.line, a.found as u64, a.expected, a.count as u64],
-        );
+        lines::write_answer(out, a.numbers());
     }
     ANSWER
 }
