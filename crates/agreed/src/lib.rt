@@ -7,7 +7,7 @@ ghost use Rattle.grammar.specs.Member.{member};
 ghost use Rattle.agreed.specs.Agreed.{Agreed};
 
 use operators::Ranking;
-use parser::Answer;
+use parser::{ACCEPTED, Answer, NO_ROOM};
 use stream::refusals::Fault;
 
 const QUARREL: u64 = Fault::Quarrel as u64;
@@ -16,7 +16,7 @@ const QUARREL: u64 = Fault::Quarrel as u64;
 fn took(a: Answer) -> bool
     ensures { result ≡ member a.number (0 ∷ 7 ∷ []) }
 {
-    matches!(a.number, 0 | 7)
+    matches!(a.number, ACCEPTED | NO_ROOM)
 }
 
 // The line of the token at a place; 0 past the stream.

@@ -10,14 +10,13 @@
 ghost use Rattle.std.specs.Prelude.{◌≤◌};
 
 use lines::LINE;
-use parser::Answer;
+use parser::{ACCEPTED, Answer};
 use std::io;
+use stream::kinds::END_OF_STREAM;
 use tree::Record;
 
 // The bytes that are read at a time, whole lines; the words of 2,048 tree records.
 const BLOCK: usize = 62320;
-
-const END: u64 = 59;
 
 // far more than there are blocks in any run
 const BLOCKS: u64 = 1000000000;
@@ -69,7 +68,7 @@ fn zeroed(nodes: &[u64; 8192]) -> bool {
 
 // An answer, and loudly where the array is not as demand 1 promises.
 fn tell(out: &impl Print, nodes: &[u64; 8192], a: Answer) -> io::Result<()> {
-    if a.number == 0 {
+    if a.number == ACCEPTED {
         print_tree(out, nodes, a.count)?;
         if !unchanged(nodes, a.count) {
             out.write_all(b"WORDS PAST THE COUNT WERE CHANGED\n")?;
@@ -129,11 +128,11 @@ impl Pending {
             };
             tree::put(&mut self.stream, self.records, record);
             self.records += 1;
-            if kind == END {
+            if kind == END_OF_STREAM {
                 self.readings(out)?;
                 self.records = 0;
             }
-        } else if kind == END {
+        } else if kind == END_OF_STREAM {
             out.write_all(b"A STREAM HAS MORE THAN 1024 TOKENS\n")?;
             self.records = 0;
         }

@@ -28,12 +28,13 @@ use stream::refusals::Fault;
 // How many guards may live.
 const LEVELS: usize = 199;
 
-// The number of an answer that is no refusal.
-const ACCEPTED: u64 = 0;
+// The number of an answer that hands a tree over.
+pub const ACCEPTED: u64 = 0;
 
 const MALFORMED: u64 = Fault::Malformed as u64;
 
-const NO_ROOM: u64 = Fault::NoRoom as u64;
+// The number of an answer to a stream that was read, where its tree has no room.
+pub const NO_ROOM: u64 = Fault::NoRoom as u64;
 
 // The five numbers of 01's answers.
 #[derive(Clone, Copy)]

@@ -6,7 +6,7 @@ ghost use Rattle.script.specs.Answers.{five, Put, Answers};
 ghost use Rattle.script.specs.Parts.{Wrote, PutTree, Reading};
 
 use lines::LINE;
-use parser::Answer;
+use parser::{ACCEPTED, Answer};
 use stream::refusals::Fault;
 
 // 1,024 tokens and an end
@@ -55,7 +55,7 @@ fn read(stream: &[u64], out: &mut [u8]) -> usize
 {
     let mut nodes = [0u64; 8192];
     let a = agreed::agreed_reading(stream, &mut nodes);
-    if a.number == 0 {
+    if a.number == ACCEPTED {
         put_tree(&nodes[..a.count], out)
     } else {
         put_answer(a, out)
