@@ -18,7 +18,7 @@ use Rattle.parser.specs.Contract.{Ready, Fine, under}
 use Rattle.parser.specs.declared.place.Script.{Script}
 use Rattle.parser.specs.declared.place.Place.{Place}
 use Rattle.parser.proofs.Steps.{check_in, check_out, check_place, check_note}
-use Rattle.parser.proofs.Kit.{Going, begin, turns, ends, fails, looked, revalue, renoted}
+use Rattle.parser.proofs.Kit.{Going, turns, ends, fails, looked, revalue, renoted}
 use Rattle.parser.proofs.Around.{looping}
 
 -- from the place p on, with the array n, a loop over `e` has come to the place p', with the array n' and so many things, of which each took a
@@ -27,9 +27,6 @@ abbrev pub Turning : (x : Script) (end more : ℕ) → Term → Place → Place 
 Turning x end more e p p' n n' v =
     (Ready x.stream.now p' more × (v + 2 * p.cursor.place ≤ 2 * p'.cursor.place))
     × Going x.stream.now p.cursor.note p.cursor.place p.used more n n' (under x.stream.now x.ranking 0 x.levels end e p.cursor.place p.cursor.mark) (under x.stream.now x.ranking 0 x.levels end e) p'.cursor p'.used v
-
-pub starts : (x : Script) (end more : ℕ) (e : Term) (p : Place) (n : List ℕ) → Ready x.stream.now p more → Turning x end more e p p n n 0
-starts x end more e p n r = ((r, omega arith), begin _ _ more _ _ refl r.at r.room)
 
 -- {k e}: the reading of one more turn, and of the end, by the check for the token of kind k
 module _ (x : Script) (end k : ℕ) (real : k ≡ 59 → ⊥) (e : Term) (w : (wellmade (on check (k ∷ []) (e ⨾ again') empty) && guarded (on check (k ∷ []) (e ⨾ again') empty)) ≡ true) where

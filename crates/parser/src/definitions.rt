@@ -1,5 +1,5 @@
 // Function definitions and tables.
-ghost use Rattle.std.specs.Prelude.{◌≡◌, ◌+◌};
+ghost use Rattle.std.specs.Prelude.{◌+◌};
 ghost use Rattle.grammar.specs.Productions.{funcbody, field, table};
 ghost use Rattle.parser.specs.Parts as P;
 ghost use Rattle.parser.specs.Contract.{Ready, Reads, Counts};

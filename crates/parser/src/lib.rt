@@ -5,7 +5,6 @@
 #![tactic(auto)]
 
 ghost use Rattle.std.specs.Prelude.{◌≡◌, None, [], ◌∷◌, length, replicate, false};
-ghost use Rattle.stream.specs.Formed.{Formed};
 ghost use Rattle.operators.specs.Ranks.{ranks};
 ghost use Rattle.operators.specs.declared.Ranking.{Ranking};
 ghost use Rattle.quarrel.specs.Notes.{note};

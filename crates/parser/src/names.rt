@@ -2,7 +2,7 @@
 ghost use Rattle.std.specs.Prelude.{◌≡◌, List, [], ◌∷◌, ℕ, ◌+◌};
 ghost use Rattle.stream.specs.Kinds.{RightParen, SemiColon};
 ghost use Rattle.grammar.specs.Term.{check, empty, any, leaf, plus, opt, ◌⨾◌, on};
-ghost use Rattle.grammar.specs.Productions.{look, nameleaf, parlist};
+ghost use Rattle.grammar.specs.Productions.{nameleaf, parlist};
 ghost use Rattle.grammar.specs.Productions.{label, breakstat, gotostat};
 ghost use Rattle.tree.specs.Tags.{tag_word};
 ghost use Rattle.parser.specs.Parts as P;

@@ -3,7 +3,7 @@ ghost use Rattle.std.specs.Prelude.{◌≡◌, ◌+◌};
 ghost use Rattle.stream.specs.Words.{kind as kind_at};
 ghost use Rattle.grammar.specs.Productions.{args, suffix, primary, suffixed};
 ghost use Rattle.parser.specs.Parts as P;
-ghost use Rattle.parser.specs.Contract.{Ready, Reads, Counts, Ends, Suffixes, says, kids, itself};
+ghost use Rattle.parser.specs.Contract.{Ready, Reads, Counts, Ends, Suffixes, kids, itself};
 
 use crate::names::unexpected;
 use crate::place::{Place, Script};
