@@ -1,2 +1,3 @@
--- What is proved of the operators' tables, for the readers above.
+-- What is proved of the operators' tables, for the readers above; Arms is for this crate's own proofs.
 pub mod Laws
+mod Arms

@@ -7,6 +7,7 @@ pub mod Members
 pub mod Looks
 -- productions in their surroundings, and the parts of some
 pub mod Around
+pub mod Bare
 pub mod Loops
 pub mod Choices
 pub mod Weights

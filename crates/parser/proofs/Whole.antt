@@ -47,7 +47,7 @@ module _ (s : List ℕ) (k : Ranking) where
   block_fails x = chunk_block ∙ ap (finish s) x
 
   module _ {n n' : List ℕ} {c d : Cursor} {u : ℕ} (f : Fine s (note false None None) 0 0 1 n n' (says s k 199 block start) c u 0) where
-    chunk_ends : look_ahead s c 0 ≡ (None, d) → Fine s (note false None None) 0 0 1 n n' (chunk s (ranks k) 199) d u 0
+    pub chunk_ends : look_ahead s c 0 ≡ (None, d) → Fine s (note false None None) 0 0 1 n n' (chunk s (ranks k) 199) d u 0
     chunk_ends x =
         let r = ran_out s c x in
         let p : d.place ≡ c.place = ap (λ (z : Cursor). z.place) r.cursor in
@@ -62,7 +62,7 @@ module _ (s : List ℕ) (k : Ranking) where
           noted = ap (λ (z : Cursor). z.note) r.cursor ∙ f.noted;
         }
 
-    chunk_left : {t : Token} → look_ahead s c 0 ≡ (Some t, d) → chunk s (ranks k) 199 ≡ fail (record { number = 2; line = told s d.mark; found = 0; expected = 0 })
+    pub chunk_left : {t : Token} → look_ahead s c 0 ≡ (Some t, d) → chunk s (ranks k) 199 ≡ fail (record { number = 2; line = told s d.mark; found = 0; expected = 0 })
     chunk_left x =
         let g = saw s c x in
         chunk_block ∙ ap (finish s) f.says ∙ no_case _ _ _ (ne_eqb _ _ g.real)

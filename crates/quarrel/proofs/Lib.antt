@@ -15,3 +15,5 @@ pub mod Notes
 pub mod Agree
 pub mod Carry
 pub mod Trees
+-- for this crate's own functions
+pub mod Hearing

@@ -2,16 +2,19 @@
 use mathlib.Core.Path.{◌≡◌, refl, sym, ap, ◌∙◌, subst}
 use mathlib.Core.Bool.{Bool, true, false, ◌||◌, cond}
 use mathlib.Core.List.{List}
-use Prim.Native.Nat.{ℕ}
+use Prim.Native.Nat.{ℕ, ◌<◌}
+use native.Mathlib.Omega.{arith}
 use lib.Dec.{eqb}
 use Rattle.std.specs.Prelude.{Option, None, Some}
-use Rattle.stream.specs.Kinds.{NotEqual}
+use Rattle.stream.specs.Kinds.{NotEqual, EndOfStream}
+use Rattle.stream.specs.Words.{records, kind}
 use Rattle.stream.specs.declared.reader.Note.{Note}
+use Rattle.stream.proofs.Words.{inside}
 use Rattle.operators.specs.Ranks.{Ranks}
 use Rattle.tree.specs.Forest.{Forest, tree}
 use Rattle.grammar.specs.Grammar.{Ranked, Chunk}
 use Rattle.grammar.specs.Member.{member}
-use Rattle.grammar.proofs.Tests.{no_case}
+use Rattle.grammar.proofs.Tests.{wrong, no_case}
 use Rattle.grammar.proofs.Same.{to_terms}
 use Rattle.quarrel.specs.Chains.{Op, op, expression, unary, tail}
 use Rattle.quarrel.specs.Rule.{firsts, seconds}
@@ -79,6 +82,10 @@ module _ (s : List ℕ) (tag v l p : ℕ) (k r : Forest) (h : apart tag ≡ true
 
   nested_apart : (q : Option ℕ) → M.nested s (tree tag v l p k r) q ≡ M.nested s r (M.nested s k q)
   nested_apart q = no_case (expression tag) _ _ (apart_tags tag h).0
+
+-- a tail's operator stands at a token of the stream
+pub real_operator : (s : List ℕ) (rank : Ranks) → Ranked rank → (p : ℕ) {l : ℕ} → l < rank.left (kind s p) → p < records s
+real_operator s rank r p {l} a = inside s p (λ e. wrong (r EndOfStream (subst (λ k. 0 < rank.left k) e (omega arith))))
 
 module _ (s : List ℕ) (rank : Ranks) where
   mutual
