@@ -35,7 +35,8 @@ impl Script<'_> {
         Ok(())
     }
 
-    // Name
+    // Name; called once for each name of a list, so inline
+    #[inline(always)]
     pub(crate) fn name(&self, at: &mut Place, nodes: &mut [u64]) -> Result<(), Refusal>
         requires { Ready self.now.stream.now at.old 3 }
         ensures { Reads self.now nameleaf 0 at.old at.new nodes.old nodes.new result }

@@ -87,11 +87,12 @@ impl Script<'_> {
         requires { Ready self.now.stream.now at.old 1 }
         ensures { Meets self.now.stream.now at.old.cursor.note at.old.cursor.place at.old.used 1 nodes.old nodes.new (says self.now.stream.now self.now.ranking self.now.levels P.stats at.old.cursor) at.new result }
     {
-        while let Some(token) = at.cursor.look_ahead(self.stream, 0) {
+        let stream = self.stream;
+        while let Some(token) = at.cursor.look_ahead(stream, 0) {
             match token.kind {
                 ELSE | ELSE_IF | END | UNTIL | RETURN => return Ok(()),
                 SEMI_COLON => {
-                    at.cursor.take_next(self.stream)?;
+                    at.cursor.take_next(stream)?;
                 }
                 _ => self.statement(at, nodes)?,
             }

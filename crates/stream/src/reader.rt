@@ -98,7 +98,8 @@ fn token_after(stream: &[u64], place: usize, n: u8) -> Token
 }
 
 impl Cursor {
-    // So many tokens are asked for: the mark goes as far as there are records.
+    // So many tokens are asked for: the mark goes as far as there are records. With `min` and `max` scripts
+    // of `if a then end` miss the bar of speed (docs/DESIGN-PASS.md).
     fn ask(&mut self, stream: &[u64], many: usize)
         requires { many < 4096 }
         ensures { self.new ≡ asked stream.now self.old many }
@@ -106,9 +107,14 @@ impl Cursor {
         let records = stream.len() / 4;
         let mut to = records;
         if self.place < records {
-            to = records.min(self.place + many);
+            let far = self.place + many;
+            if far < records {
+                to = far;
+            }
         }
-        self.mark = self.mark.max(to);
+        if self.mark < to {
+            self.mark = to;
+        }
     }
 
     // Holds n + 1 tokens, if there are so many.
