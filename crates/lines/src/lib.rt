@@ -17,7 +17,7 @@ pub struct BadLine {
     pub index: usize,
 }
 
-// The value of a lowercase hexadecimal digit. With a `match` over the two ranges a text takes half as much time
+// The value of a lowercase hexadecimal digit. With a `match` over the two ranges a text can take half as much time
 // again (docs/DESIGN-PASS.md).
 #[tactic(auto, using(crate::proofs::Hex::glyph_low, crate::proofs::Hex::glyph_high))]
 fn digit(b: u8) -> Option<u64>
